@@ -1,0 +1,43 @@
+-- Document 01, 'The drive and its refusals': the table's columns 'No.' and 'Word'.
+use Prim.Native.Nat.{ℕ}
+use Rattle.answer.specs.declared.Answer.{Answer}
+use Rattle.answer.specs.declared.Answer.the-variants.{
+  Done,
+  NoRow,
+  OutOfRange,
+  NotTokens,
+  TooLong,
+  Global,
+  PastEnd,
+  Overlap,
+  Held,
+  Locked,
+  BadScript,
+  ShortBuffer,
+}
+
+abbrev pub numberOf : Answer → ℕ
+-- done
+numberOf Done = 0
+-- no row
+numberOf NoRow = 1
+-- out of range
+numberOf OutOfRange = 2
+-- not tokens
+numberOf NotTokens = 3
+-- too long
+numberOf TooLong = 4
+-- global
+numberOf Global = 5
+-- past end
+numberOf PastEnd = 6
+-- overlap
+numberOf Overlap = 7
+-- held
+numberOf Held = 8
+-- locked
+numberOf Locked = 9
+-- bad script
+numberOf BadScript = 10
+-- short buffer
+numberOf ShortBuffer = 11

@@ -1,0 +1,50 @@
+-- Laws of lists that loops over arrays rest on.
+use mathlib.Core.Path.{_≡_, refl, sym, ap, _∙_}
+use Prim.Native.Nat.{ℕ, zero, suc, _+_, _≤_, _<_}
+use native.Mathlib.Numerals.{add-one}
+use native.Mathlib.Omega.{arith}
+use mathlib.Core.Bool.{Bool, true, false, _||_}
+use mathlib.Core.List.{List, [], _∷_, map}
+use lib.ListN.{length, getD, set, drop, length-map}
+use Rattle.base.specs.Lists.{oneIf}
+
+-- f at the first i elements, and the rest as it was
+module _ {A : Type 0} (f : A → A) where
+  abbrev pub mapTo : ℕ → List A → List A
+  mapTo zero l = l
+  mapTo (suc i) [] = []
+  mapTo (suc i) (x ∷ l) = f x ∷ mapTo i l
+
+  -- element i is not touched yet
+  ahead : (i : ℕ) (l : List A) (d : A) → getD (mapTo i l) i d ≡ getD l i d
+  ahead zero l d = refl
+  ahead (suc i) [] d = refl
+  ahead (suc i) (x ∷ l) d = ahead i l d
+
+  next : (i : ℕ) (l : List A) (d : A) → i < length l → set (mapTo i l) i (f (getD l i d)) ≡ mapTo (suc i) l
+  next i [] d h = absurd (omega arith)
+  next zero (x ∷ l) d h = refl
+  next (suc i) (x ∷ l) d h = ap {B = List A} (λ r. f x ∷ r) (next i l d (omega arith))
+
+  -- one turn: the value stored is f of the element that was read
+  pub mapTo-next : (i : ℕ) (l m : List A) (v d : A) → m ≡ mapTo i l → v ≡ f (getD m i d) → i < length l → set m i v ≡ mapTo (i + 1) l
+  mapTo-next i l m v d e q h = rw (q, e, ahead i l d, add-one) (next i l d h)
+
+  pub mapTo-all : (i : ℕ) (l : List A) → length l ≤ i → mapTo i l ≡ map f l
+  mapTo-all zero [] h = refl
+  mapTo-all zero (x ∷ l) h = absurd (omega arith)
+  mapTo-all (suc i) [] h = refl
+  mapTo-all (suc i) (x ∷ l) h = ap {B = List A} (λ r. f x ∷ r) (mapTo-all i l (omega arith))
+
+-- the length of an array of structs: what the checker knows is the length of the list's image
+pub unmapped {ℓ} : {A : Type 0} {B : Type ℓ} (f : A → B) (l : List A) (n : ℕ) → length (map f l) ≡ n → length l ≡ n
+unmapped f l n e = sym (length-map l f) ∙ e
+
+-- at most one of two tests that stand for one
+pub or-le : (a b : Bool) → oneIf (a || b) ≤ oneIf a + oneIf b
+or-le true b = omega arith
+or-le false b = omega arith
+
+pub oneIf-le : (b : Bool) → oneIf b ≤ 1
+oneIf-le true = omega arith
+oneIf-le false = omega arith

@@ -1,0 +1,57 @@
+-- Document 01, 'Sensors': a Set of a sensor's columns.
+use Prim.Native.Nat.{ℕ}
+use mathlib.Core.Bool.{Bool, cond, _&&_}
+use lib.Dec.{eqb, ltb}
+use Rattle.base.specs.Columns.{named, within}
+use Rattle.sensor.specs.declared.single.Sensor.{Sensor}
+use Rattle.sensor.specs.declared.columns.SensorColumns.{SensorColumns}
+use Rattle.sensor.specs.Single.{enableOf, disableOf}
+
+-- "Thresholds and timeouts are 0 to 4,294,967,295; fractions 0 to 999." "A boolean is 0 or 1."
+abbrev pub greatestNumber : ℕ
+greatestNumber = 4294967295
+
+abbrev pub greatestFraction : ℕ
+greatestFraction = 999
+
+-- Every bit of the mask is one of the seven, and every named value is in its range.
+unfoldable pub columnsFit : SensorColumns → Bool
+columnsFit c =
+    let m = c .mask in
+    ltb m 128
+    && (within 1 (named 1 m) (c .enabled)
+    && (within greatestNumber (named 2 m) (c .«on_threshold»)
+    && (within greatestFraction (named 4 m) (c .«on_fraction»)
+    && (within greatestNumber (named 8 m) (c .«on_timeout»)
+    && (within greatestNumber (named 16 m) (c .«off_threshold»)
+    && (within greatestFraction (named 32 m) (c .«off_fraction»)
+    && within greatestNumber (named 64 m) (c .«off_timeout»)))))))
+
+-- "out of range: a field exceeds its range"; "an unknown mask bit .. gets 2"
+abbrev pub setAnswer : SensorColumns → ℕ
+setAnswer c = cond (columnsFit c) 0 2
+
+-- the named columns stored. "A running timer ignores a changed timeout.", and the level waits for the next reading.
+unfoldable pub storedOf : SensorColumns → Sensor → Sensor
+storedOf c s =
+    let m = c .mask in
+    record {
+      «on_threshold» = cond (named 2 m) (c .«on_threshold») (s .«on_threshold»);
+      «on_fraction» = cond (named 4 m) (c .«on_fraction») (s .«on_fraction»);
+      «on_timeout» = cond (named 8 m) (c .«on_timeout») (s .«on_timeout»);
+      «off_threshold» = cond (named 16 m) (c .«off_threshold») (s .«off_threshold»);
+      «off_fraction» = cond (named 32 m) (c .«off_fraction») (s .«off_fraction»);
+      «off_timeout» = cond (named 64 m) (c .«off_timeout») (s .«off_timeout»);
+      level = s .level;
+      phase = s .phase;
+      condition = s .condition;
+      timer = s .timer;
+    }
+
+-- the sensor enabled or disabled, where the Set names it
+unfoldable pub switchedOf : SensorColumns → Sensor → Sensor
+switchedOf c s = cond (named 1 (c .mask)) (cond (eqb (c .enabled) 1) (enableOf s) (disableOf s)) s
+
+-- "A Set stores all its columns before it enables."
+unfoldable pub setOf : SensorColumns → Sensor → Sensor
+setOf c s = cond (columnsFit c) (switchedOf c (storedOf c s)) s

@@ -1,0 +1,150 @@
+-- Document 01, 'Sensors': one sensor, what each event and each tick makes of it. A sensor's phase says whether it is enabled, and its
+-- timer runs where it is not 0; so every value of the type has a meaning, also one that no event reaches.
+use Prim.Native.Nat.{ℕ, _-_, min}
+use mathlib.Core.Path.{_≡_}
+use mathlib.Core.Bool.{Bool, true, false, cond, Bool·beq}
+use lib.Dec.{eqb, leb, ltb}
+use Rattle.answer.specs.Numbers.{numberOf}
+use Rattle.sensor.specs.declared.moves.Phase.{Phase}
+use Rattle.sensor.specs.declared.moves.Phase.the-variants.{SS0, ST0, SS1, ST1, SS2}
+use Rattle.sensor.specs.declared.moves.Move.{Move}
+use Rattle.sensor.specs.declared.moves.Move.the-variants.{Stays, Enters}
+use Rattle.sensor.specs.declared.moves.Cause.{Cause}
+use Rattle.sensor.specs.declared.moves.Cause.the-variants.{
+  TrueAtOnce,
+  TrueWaiting,
+  FalseAtOnce,
+  FalseWaiting,
+  TimerEnds,
+  EnabledTrueAtOnce,
+  EnabledTrueWaiting,
+  EnabledFalse,
+  Disabled,
+  PowerCycle,
+}
+use Rattle.sensor.specs.declared.single.Sensor.{Sensor}
+use Rattle.sensor.specs.declared.single.SensorAnswer.{SensorAnswer}
+use Rattle.sensor.specs.Phases.{conditionIn, moveOf, levelAfter}
+use Rattle.sensor.specs.Level.{greatestReading, thousandths, levelRule}
+
+-- "Fresh: all columns 0, .. levels FALSE, phases SS0."
+unfoldable pub freshSensor : Sensor
+freshSensor = record {
+  «on_threshold» = 0;
+  «on_fraction» = 0;
+  «on_timeout» = 0;
+  «off_threshold» = 0;
+  «off_fraction» = 0;
+  «off_timeout» = 0;
+  level = false;
+  phase = SS0;
+  condition = false;
+  timer = 0;
+}
+
+-- the same columns, with another level, phase, condition and timer
+abbrev pub moved : Bool → Phase → Bool → ℕ → Sensor → Sensor
+moved l p c t s = record {
+  «on_threshold» = s .«on_threshold»;
+  «on_fraction» = s .«on_fraction»;
+  «on_timeout» = s .«on_timeout»;
+  «off_threshold» = s .«off_threshold»;
+  «off_fraction» = s .«off_fraction»;
+  «off_timeout» = s .«off_timeout»;
+  level = l;
+  phase = p;
+  condition = c;
+  timer = t;
+}
+
+abbrev pub withLevel : Bool → Sensor → Sensor
+withLevel l s = moved l (s .phase) (s .condition) (s .timer) s
+
+abbrev pub withTimer : ℕ → Sensor → Sensor
+withTimer t s = moved (s .level) (s .phase) (s .condition) t s
+
+-- "ST0 with the timer set to it", "ST1 with the timer set to it": the timer as a phase is entered. In the others no timer runs.
+abbrev pub timerIn : Phase → Sensor → ℕ
+timerIn SS0 s = 0
+timerIn ST0 s = s .«on_timeout»
+timerIn SS1 s = 0
+timerIn ST1 s = s .«off_timeout»
+timerIn SS2 s = 0
+
+-- the sensor as it enters a phase
+abbrev pub entering : Phase → Sensor → Sensor
+entering p s = moved (s .level) p (conditionIn p (s .condition)) (timerIn p s) s
+
+abbrev pub movedBy : Move → Sensor → Sensor
+movedBy Stays s = s
+movedBy (Enters p) s = entering p s
+
+-- the sensor after a cause
+unfoldable pub stepOf : Cause → Sensor → Sensor
+stepOf c s = movedBy (moveOf (s .phase) c) (withLevel (levelAfter c (s .level)) s)
+
+-- On and Off, in thousandths
+abbrev pub onOf : Sensor → ℕ
+onOf s = thousandths (s .«on_threshold») (s .«on_fraction»)
+
+abbrev pub offOf : Sensor → ℕ
+offOf s = thousandths (s .«off_threshold») (s .«off_fraction»)
+
+-- the level that a reading gives
+unfoldable pub judgeOf : ℕ → Sensor → Bool
+judgeOf v s = levelRule (onOf s) (offOf s) v (s .level)
+
+-- "When an enabled sensor's level turns TRUE: on-timeout 0 ..", "Turning FALSE: off-timeout 0 ..": which cause a turn is
+abbrev pub turnCause : Bool → Sensor → Cause
+turnCause l s =
+    cond l (cond (eqb (s .«on_timeout») 0) TrueAtOnce TrueWaiting) (cond (eqb (s .«off_timeout») 0) FalseAtOnce FalseWaiting)
+
+-- the sensor once its level is l: it turns only where the level was another
+unfoldable pub turnedTo : Bool → Sensor → Sensor
+turnedTo l s = cond (Bool·beq l (s .level)) s (stepOf (turnCause l s) s)
+
+-- A reading: 2 where it exceeds its range, and then the sensor is as it was.
+abbrev pub readingAnswer : ℕ → ℕ
+readingAnswer v = cond (ltb greatestReading v) 2 0
+
+unfoldable pub readingOf : ℕ → Sensor → Sensor
+readingOf v s = cond (ltb greatestReading v) s (turnedTo (judgeOf v s) s)
+
+-- "Enabling with level TRUE acts as turning TRUE; with level FALSE it gives SS2.": which cause enabling is
+abbrev pub enableCause : Sensor → Cause
+enableCause s = cond (s .level) (cond (eqb (s .«on_timeout») 0) EnabledTrueAtOnce EnabledTrueWaiting) EnabledFalse
+
+unfoldable pub enableOf : Sensor → Sensor
+enableOf s = stepOf (enableCause s) s
+
+-- "Disabling gives SS0 and stops the timer."
+unfoldable pub disableOf : Sensor → Sensor
+disableOf s = stepOf Disabled s
+
+-- "A power cycle then sets each level FALSE and each sensor to SS2 if enabled, else SS0, timers stopped, columns kept."
+unfoldable pub powerCycleOf : Sensor → Sensor
+powerCycleOf s = stepOf PowerCycle s
+
+-- "One tick takes 1 from every running timer; those that reach 0 settle"
+unfoldable pub tickOf : Sensor → Sensor
+tickOf s = cond (eqb (s .timer) 0) s (cond (eqb (s .timer) 1) (stepOf TimerEnds s) (withTimer (s .timer - 1) s))
+
+-- the timer runs; it ends at the next tick
+abbrev pub runs : Sensor → Bool
+runs s = ltb 0 (s .timer)
+
+abbrev pub endsNext : Sensor → Bool
+endsNext s = eqb (s .timer) 1
+
+-- k ticks at once: the ticks to go less k
+abbrev pub loweredBy : ℕ → Sensor → Sensor
+loweredBy k s = withTimer (s .timer - k) s
+
+-- the ticks that pass before the one that ends the timer, n at most
+abbrev pub quietOf : ℕ → Sensor → ℕ
+quietOf n s = cond (eqb (s .timer) 0) n (min n (s .timer - 1))
+
+-- What a reading or a Set hands back: the answer's number in document 01's table, and the sensor.
+pub record Answers (number : ℕ) (after : Sensor) (r : SensorAnswer) : Type 0 where
+  pub answer : numberOf (r .answer) ≡ number
+  pub sensor : r .sensor ≡ after

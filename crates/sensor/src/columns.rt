@@ -1,0 +1,138 @@
+// A Set of a sensor's columns.
+ghost use mathlib.Core.Path.{_≡_};
+ghost use mathlib.Core.Bool.{true, cond};
+ghost use Prim.Native.Nat.{_<_};
+ghost use Rattle.base.specs.Columns.{named, within};
+ghost use Rattle.sensor.specs.Single.{Answers};
+ghost use Rattle.sensor.specs.Columns.{greatestNumber, columnsFit, setAnswer, storedOf, switchedOf, setOf};
+use answer::Answer;
+use crate::single::Sensor;
+use crate::single::SensorAnswer;
+
+// What a Set carries. A column is named by its bit in the mask: 1 enabled, 2 on-threshold, 4 on-fraction, 8 on-timeout,
+// 16 off-threshold, 32 off-fraction, 64 off-timeout. A value that is not named is not looked at.
+pub struct SensorColumns {
+    pub mask: u64,
+    pub enabled: u64,
+    pub on_threshold: u64,
+    pub on_fraction: u64,
+    pub on_timeout: u64,
+    pub off_threshold: u64,
+    pub off_fraction: u64,
+    pub off_timeout: u64,
+}
+
+impl SensorColumns {
+    // Whether every bit of the mask is known and every named value is in its range.
+    pub fn fit(self) -> bool
+        ensures { λ r. ⌜ r ≡ columnsFit self ⌝ }
+    {
+        let mask = self.mask;
+        if 128 <= mask {
+            return false;
+        }
+        if !in_range(mask, 1, self.enabled, 1) {
+            return false;
+        }
+        if !in_range(mask, 2, self.on_threshold, 4_294_967_295) {
+            return false;
+        }
+        if !in_range(mask, 4, self.on_fraction, 999) {
+            return false;
+        }
+        if !in_range(mask, 8, self.on_timeout, 4_294_967_295) {
+            return false;
+        }
+        if !in_range(mask, 16, self.off_threshold, 4_294_967_295) {
+            return false;
+        }
+        if !in_range(mask, 32, self.off_fraction, 999) {
+            return false;
+        }
+        in_range(mask, 64, self.off_timeout, 4_294_967_295)
+    }
+}
+
+impl Sensor {
+    // The sensor with the named columns stored.
+    fn store(self, columns: SensorColumns) -> Sensor
+        requires { ⌜ columnsFit columns ≡ true ⌝ }
+        ensures { λ r. ⌜ r ≡ storedOf columns self ⌝ }
+    {
+        let mask = columns.mask;
+        let phase = self.phase;
+        Sensor {
+            on_threshold: column(mask, 2, columns.on_threshold, self.on_threshold),
+            on_fraction: column(mask, 4, columns.on_fraction, self.on_fraction),
+            on_timeout: column(mask, 8, columns.on_timeout, self.on_timeout),
+            off_threshold: column(mask, 16, columns.off_threshold, self.off_threshold),
+            off_fraction: column(mask, 32, columns.off_fraction, self.off_fraction),
+            off_timeout: column(mask, 64, columns.off_timeout, self.off_timeout),
+            level: self.level,
+            phase,
+            condition: self.condition,
+            timer: self.timer,
+        }
+    }
+
+    // The sensor enabled or disabled, where the Set names it.
+    fn switch(self, columns: SensorColumns) -> Sensor
+        ensures { λ r. ⌜ r ≡ switchedOf columns self ⌝ }
+    {
+        if names(columns.mask, 1) {
+            if columns.enabled == 1 {
+                return self.enable();
+            }
+            return self.disable();
+        }
+        self
+    }
+
+    // A Set: the sensor after it, or answer 2 and the sensor as it was.
+    pub fn set(self, columns: SensorColumns) -> SensorAnswer
+        ensures { λ r. ⌜ Answers (setAnswer columns) (setOf columns self) r ⌝ }
+    {
+        if columns.fit() {
+            let sensor = self.store(columns).switch(columns);
+            return SensorAnswer {
+                answer: Answer::Done,
+                sensor,
+            };
+        }
+        SensorAnswer {
+            answer: Answer::OutOfRange,
+            sensor: self,
+        }
+    }
+}
+
+// Whether the mask names the column of a bit.
+fn names(mask: u64, bit: u64) -> bool
+    requires { ⌜ 0 < bit ⌝ }
+    ensures { λ r. ⌜ r ≡ named bit mask ⌝ }
+{
+    mask / bit % 2 == 1
+}
+
+// Whether a value is at most `most`, where the mask names it.
+fn in_range(mask: u64, bit: u64, value: u64, most: u64) -> bool
+    requires { ⌜ 0 < bit ⌝ }
+    ensures { λ r. ⌜ r ≡ within most (named bit mask) value ⌝ }
+{
+    if names(mask, bit) {
+        return value <= most;
+    }
+    true
+}
+
+// A column after a Set: the value where the mask names it, else as it was.
+fn column(mask: u64, bit: u64, value: u64, former: u32) -> u32
+    requires { ⌜ 0 < bit ⌝ }
+    requires { ⌜ within greatestNumber (named bit mask) value ≡ true ⌝ }
+    ensures { λ r. ⌜ r ≡ cond (named bit mask) value former ⌝ }
+{
+    if names(mask, bit) {
+        return value as u32;
+    }
+    former
+}
