@@ -3,7 +3,7 @@ use mathlib.Core.Path.{_≡_, refl, sym, ap, _∙_}
 use Prim.Native.Nat.{ℕ, zero, suc, _+_, _≤_, _<_}
 use native.Mathlib.Numerals.{add-one}
 use native.Mathlib.Omega.{arith}
-use mathlib.Core.Bool.{Bool, true, false, _||_}
+use mathlib.Core.Bool.{Bool, true, false, cond, _||_, false≢true}
 use mathlib.Core.List.{List, [], _∷_, map}
 use lib.ListN.{length, getD, set, drop, length-map}
 use Rattle.base.specs.Lists.{oneIf}
@@ -48,3 +48,21 @@ or-le false b = omega arith
 pub oneIf-le : (b : Bool) → oneIf b ≤ 1
 oneIf-le true = omega arith
 oneIf-le false = omega arith
+
+-- a test at every element of a list, which the checker computes, and what it says of each
+abbrev pub every : {A : Type 0} → (A → Bool) → List A → Bool
+every f [] = true
+every f (x ∷ l) = cond (f x) (every f l) false
+
+first : (b c : Bool) → cond b c false ≡ true → b ≡ true
+first true c e = refl
+first false c e = e
+
+rest : (b c : Bool) → cond b c false ≡ true → c ≡ true
+rest true c e = e
+rest false c e = absurd (false≢true e)
+
+pub every-at : {A : Type 0} (f : A → Bool) (l : List A) (k : ℕ) (d : A) → every f l ≡ true → k < length l → f (getD l k d) ≡ true
+every-at f [] k d t h = absurd (omega arith)
+every-at f (x ∷ l) zero d t h = first (f x) (every f l) t
+every-at f (x ∷ l) (suc k) d t h = every-at f l k d (rest (f x) (every f l) t) (omega arith)

@@ -87,9 +87,11 @@ module _ {A : Type 0} (p : A → Bool) where
   pub count-begin : (n : ℕ) (l : List A) → length l ≡ n → Counted n l 0 0
   count-begin n l e = record { low = omega arith; long = e; few = omega arith; same = omega arith }
 
-  pub count-again : (n : ℕ) (l : List A) (m i v : ℕ) (d : A) → Counted n l m i → i < n → v ≡ oneIf (p (getD l i d)) → Counted n l (m + v) (i + 1)
+  pub count-again : (n : ℕ) (l : List A) (m i v : ℕ) (d : A) (t : Bool) → Counted n l m i → i < n → t ≡ p (getD l i d) → v ≡ oneIf t
+      → Counted n l (m + v) (i + 1)
   unfolding count
-  count-again n l m i v d t h q =
+  count-again n l m i v d b t h e₁ e₂ =
+      let q : v ≡ oneIf (p (getD l i d)) = e₂ ∙ ap oneIf e₁ in
       let k : i < length l = omega (arith, t .long) in
       let e : m + (oneIf (p (getD l i d)) + count p (drop (suc i) l)) ≡ count p l = rw (drop-cons l i d k) at (t .same) in
       record {

@@ -5,9 +5,9 @@ ghost use Prim.Native.Nat.{_<_};
 ghost use Rattle.base.specs.Columns.{named, within};
 ghost use Rattle.sensor.specs.Single.{Answers};
 ghost use Rattle.sensor.specs.Columns.{greatestNumber, columnsFit, setAnswer, storedOf, switchedOf, setOf};
-use answer::Answer;
 use crate::single::Sensor;
 use crate::single::SensorAnswer;
+use answer::Answer;
 
 // What a Set carries. A column is named by its bit in the mask: 1 enabled, 2 on-threshold, 4 on-fraction, 8 on-timeout,
 // 16 off-threshold, 32 off-fraction, 64 off-timeout. A value that is not named is not looked at.

@@ -27,10 +27,10 @@ ghost use Rattle.sensor.specs.Single.{
   quietOf,
   Answers,
 };
-use answer::Answer;
 use crate::moves::Cause;
 use crate::moves::Move;
 use crate::moves::Phase;
+use answer::Answer;
 
 // The columns, and then what moves: a sensor is enabled where its phase is not SS0, and its timer runs where it is not 0.
 pub struct Sensor {

@@ -1,0 +1,70 @@
+-- What the arms of the functions come to, over the values that their calls hand back.
+use mathlib.Core.Path.{_≡_, refl, sym, ap, _∙_}
+use Prim.Native.Nat.{ℕ, _-_, _<_, _≤_}
+use native.Mathlib.Omega.{arith}
+use mathlib.Core.Bool.{Bool, true, false, not, Bool·beq, true≢false, false≢true}
+use lib.Dec.{ltb, eqb}
+use borrow.Author.Tests.{le-ltb, eq-eqb, ne-eqb}
+use Rattle.base.proofs.Cases.{cond-true, cond-false}
+use Rattle.sensor.specs.declared.moves.Phase.{Phase}
+use Rattle.sensor.specs.declared.moves.Move.{Move}
+use Rattle.sensor.specs.declared.moves.Move.the-variants.{Stays, Enters}
+use Rattle.sensor.specs.declared.moves.Cause.{Cause}
+use Rattle.sensor.specs.declared.single.Sensor.{Sensor}
+use Rattle.sensor.specs.Phases.{moveOf, levelAfter}
+use Rattle.sensor.specs.Single.{withLevel, movedBy, entering, stepOf, turnCause, turnedTo, judgeOf, readingOf, readingAnswer, quietOf, withTimer, loweredBy}
+use Rattle.sensor.specs.Level.{greatestReading}
+use Rattle.sensor.specs.declared.columns.SensorColumns.{SensorColumns}
+use Rattle.sensor.specs.Columns.{columnsFit, storedOf, switchedOf, setOf}
+
+-- a step: the level, and then the move
+
+module _ (c : Cause) (s n : Sensor) (l : Bool) (m : Move) (el : l ≡ levelAfter c (s .level)) (en : n ≡ withLevel l s) (em : m ≡ moveOf (s .phase) c) where
+  stepped : movedBy m n ≡ stepOf c s
+  unfolding stepOf
+  stepped =
+      ap (movedBy m) (en ∙ ap (λ (x : Bool). withLevel x s) el) ∙ ap (λ (x : Move). movedBy x (withLevel (levelAfter c (s .level)) s)) em
+
+  pub stays : m ≡ Stays → n ≡ stepOf c s
+  stays e = ap (λ (x : Move). movedBy x n) (sym e) ∙ stepped
+
+  pub enters : (p : Phase) (r : Sensor) → m ≡ Enters p → r ≡ entering p n → r ≡ stepOf c s
+  enters p r e q = q ∙ ap (λ (x : Move). movedBy x n) (sym e) ∙ stepped
+
+pub turned : (l t : Bool) (s r : Sensor) (c : Cause) → t ≡ Bool·beq l (s .level) → t ≡ false → c ≡ turnCause l s → r ≡ stepOf c s
+    → r ≡ turnedTo l s
+unfolding turnedTo
+turned l t s r c p e q w = cond-false (Bool·beq l (s .level)) _ _ _ (sym p ∙ e) (w ∙ ap (λ (x : Cause). stepOf x s) q)
+
+pub beq-true : (a b : Bool) → a ≡ true → b ≡ Bool·beq a b
+beq-true true true e = refl
+beq-true true false e = refl
+beq-true false b e = absurd (false≢true e)
+
+pub judged : (v : ℕ) (s r : Sensor) (l : Bool) → v ≤ greatestReading → l ≡ judgeOf v s → r ≡ turnedTo l s → r ≡ readingOf v s
+unfolding readingOf
+judged v s r l h e q = cond-false (ltb greatestReading v) _ _ _ (le-ltb greatestReading v h) (q ∙ ap (λ (x : Bool). turnedTo x s) e)
+
+pub in-range : (v : ℕ) → v ≤ greatestReading → 0 ≡ readingAnswer v
+in-range v h = cond-false (ltb greatestReading v) _ _ _ (le-ltb greatestReading v h) refl
+
+-- the ticks before the end of a timer
+
+pub quiet-off : (n : ℕ) (s : Sensor) → s .timer ≡ 0 → n ≡ quietOf n s
+quiet-off n s e = cond-true (eqb (s .timer) 0) n _ _ (eq-eqb (s .timer) 0 e) refl
+
+pub quiet-few : (n : ℕ) (s : Sensor) → (s .timer ≡ 0 → ⊥) → n < s .timer → n ≡ quietOf n s
+quiet-few n s ne h = cond-false (eqb (s .timer) 0) n _ _ (ne-eqb (s .timer) 0 ne) (omega arith)
+
+pub quiet-many : (n : ℕ) (s : Sensor) → (s .timer ≡ 0 → ⊥) → s .timer ≤ n → s .timer - 1 ≡ quietOf n s
+quiet-many n s ne h = cond-false (eqb (s .timer) 0) n _ _ (ne-eqb (s .timer) 0 ne) (omega arith)
+
+pub lowered-out : (k : ℕ) (s r : Sensor) → s .timer < k → r ≡ withTimer 0 s → r ≡ loweredBy k s
+lowered-out k s r h q = let e : 0 ≡ s .timer - k = omega arith in q ∙ ap (λ (t : ℕ). withTimer t s) e
+
+-- a Set: stored, and then enabled or disabled
+
+pub set-done : (c : SensorColumns) (s m r : Sensor) (t : Bool) → t ≡ columnsFit c → t ≡ true → m ≡ storedOf c s → r ≡ switchedOf c m
+    → r ≡ setOf c s
+unfolding setOf
+set-done c s m r t p e q w = cond-true (columnsFit c) _ _ _ (sym p ∙ e) (w ∙ ap (switchedOf c) q)

@@ -1,0 +1,87 @@
+-- What a Set that fits says of each of its columns.
+use mathlib.Core.Path.{_≡_, refl, sym, ap, _∙_}
+use Prim.Native.Nat.{ℕ, _<_, _≤_}
+use native.Mathlib.Omega.{arith}
+use mathlib.Core.Bool.{Bool, true, false, not, cond, _&&_, _||_, false≢true}
+use lib.Dec.{leb, ltb}
+use borrow.Author.Tests.{leb-true, le-leb}
+use Rattle.base.specs.Columns.{named, within}
+use Rattle.sensor.specs.declared.columns.SensorColumns.{SensorColumns}
+use Rattle.sensor.specs.Columns.{columnsFit, greatestNumber, greatestFraction}
+
+and-left : (a b : Bool) → (a && b) ≡ true → a ≡ true
+and-left true b e = refl
+and-left false b e = e
+
+and-right : (a b : Bool) → (a && b) ≡ true → b ≡ true
+and-right true b e = e
+and-right false b e = absurd (false≢true e)
+
+pub record Fitting (c : SensorColumns) : Type 0 where
+  pub enabled : within 1 (named 1 (c .mask)) (c .enabled) ≡ true
+  pub «on_threshold» : within greatestNumber (named 2 (c .mask)) (c .«on_threshold») ≡ true
+  pub «on_fraction» : within greatestFraction (named 4 (c .mask)) (c .«on_fraction») ≡ true
+  pub «on_timeout» : within greatestNumber (named 8 (c .mask)) (c .«on_timeout») ≡ true
+  pub «off_threshold» : within greatestNumber (named 16 (c .mask)) (c .«off_threshold») ≡ true
+  pub «off_fraction» : within greatestFraction (named 32 (c .mask)) (c .«off_fraction») ≡ true
+  pub «off_timeout» : within greatestNumber (named 64 (c .mask)) (c .«off_timeout») ≡ true
+
+-- eight tests that hold together hold each by itself
+each : (a b c d e f g h : Bool) → (a && (b && (c && (d && (e && (f && (g && h))))))) ≡ true
+    → (b ≡ true) × (c ≡ true) × (d ≡ true) × (e ≡ true) × (f ≡ true) × (g ≡ true) × (h ≡ true)
+each a b c d e f g h t =
+    let t1 = and-right a (b && (c && (d && (e && (f && (g && h)))))) t in
+    let t2 = and-right b (c && (d && (e && (f && (g && h))))) t1 in
+    let t3 = and-right c (d && (e && (f && (g && h)))) t2 in
+    let t4 = and-right d (e && (f && (g && h))) t3 in
+    let t5 = and-right e (f && (g && h)) t4 in
+    let t6 = and-right f (g && h) t5 in
+    (and-left b _ t1, and-left c _ t2, and-left d _ t3, and-left e _ t4, and-left f _ t5, and-left g h t6, and-right g h t6)
+
+pub fitting : (c : SensorColumns) → columnsFit c ≡ true → Fitting c
+unfolding columnsFit
+fitting c e =
+    let t = each
+    (ltb (c .mask) 128)
+    (within 1 (named 1 (c .mask)) (c .enabled))
+    (within greatestNumber (named 2 (c .mask)) (c .«on_threshold»))
+    (within greatestFraction (named 4 (c .mask)) (c .«on_fraction»))
+    (within greatestNumber (named 8 (c .mask)) (c .«on_timeout»))
+    (within greatestNumber (named 16 (c .mask)) (c .«off_threshold»))
+    (within greatestFraction (named 32 (c .mask)) (c .«off_fraction»))
+    (within greatestNumber (named 64 (c .mask)) (c .«off_timeout»))
+    e in
+    record {
+      enabled = t .0;
+      «on_threshold» = t .1;
+      «on_fraction» = t .2;
+      «on_timeout» = t .3;
+      «off_threshold» = t .4;
+      «off_fraction» = t .5;
+      «off_timeout» = t .6;
+    }
+
+-- a named value of a range is at most its greatest
+pub named-fits : (most v : ℕ) (t n : Bool) → within most n v ≡ true → t ≡ n → t ≡ true → v ≤ most
+named-fits most v t true h p e = leb-true v most h
+named-fits most v t false h p e = absurd (false≢true (sym p ∙ e))
+
+-- a value in the range of fractions is in that of numbers
+wider : (v : ℕ) (n : Bool) → within greatestFraction n v ≡ true → within greatestNumber n v ≡ true
+wider v true e = le-leb v greatestNumber (omega (arith, leb-true v greatestFraction e))
+wider v false e = refl
+
+pub on-fraction : (c : SensorColumns) → columnsFit c ≡ true → within greatestNumber (named 4 (c .mask)) (c .«on_fraction») ≡ true
+on-fraction c e = wider (c .«on_fraction») (named 4 (c .mask)) (fitting c e .«on_fraction»)
+
+pub off-fraction : (c : SensorColumns) → columnsFit c ≡ true → within greatestNumber (named 32 (c .mask)) (c .«off_fraction») ≡ true
+off-fraction c e = wider (c .«off_fraction») (named 32 (c .mask)) (fitting c e .«off_fraction»)
+
+-- the range test, where the mask names the column and where it does not
+pub within-named : (most v : ℕ) (t n : Bool) → t ≡ n → t ≡ true → leb v most ≡ within most n v
+within-named most v t true p e = refl
+within-named most v t false p e = absurd (false≢true (sym p ∙ e))
+
+pub within-free : (most v : ℕ) (t n : Bool) → t ≡ n → t ≡ false → true ≡ within most n v
+within-free most v t true p e = absurd (false≢true (sym e ∙ p))
+within-free most v t false p e = refl

@@ -1,0 +1,4 @@
+pub mod Table
+pub mod Arms
+pub mod Fits
+pub mod Gather

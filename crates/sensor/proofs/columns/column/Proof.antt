@@ -1,0 +1,25 @@
+use Prim.Native.Nat.{_≤_}
+use Rattle.sensor.specs.Columns.{greatestNumber}
+use native.Mathlib.Omega.{arith}
+use Rattle.sensor.proofs.Fits.{named-fits}
+use Rattle.base.proofs.Cases.{calls}
+use borrow.Author.Needs.{needs}
+use Rattle.sensor.proofs.columns.column.Statement.{statement}
+use Rattle.sensor.proofs.columns.column.Tie as tie
+
+names-requires : tie.Need-names-requires
+names-requires c κs = search needs
+
+cast-result : tie.Need-cast-result
+cast-result c =
+    let small : c .before .before .args .value ≤ greatestNumber = search named-fits in
+    omega arith
+
+returns : tie.Need-returns
+returns c = search calls
+
+returns-2 : tie.Need-returns-2
+returns-2 c = search calls
+
+pub column-spec : {M : Type 1} → statement M
+column-spec = tie.close (tie.spec names-requires cast-result returns returns-2)

@@ -1,0 +1,26 @@
+use Rattle.sensor.proofs.Arms.{set-done}
+use Rattle.sensor.specs.Columns.{setOf}
+use mathlib.Core.Path.{sym, _∙_}
+use Rattle.base.proofs.Cases.{calls}
+use borrow.Author.Needs.{needs}
+use Rattle.sensor.proofs.single.Sensor.set.Statement.{statement}
+use Rattle.sensor.proofs.single.Sensor.set.Tie as tie
+
+fit-requires : tie.Need-fit-requires
+fit-requires c κs = search needs
+
+store-requires : tie.Need-store-requires
+store-requires c κs = sym (c .before .fit .ensures) ∙ c .if1 .taken
+
+switch-requires : tie.Need-switch-requires
+switch-requires c κs = search needs
+
+returns : tie.Need-returns
+returns c = search (set-done, calls)
+
+returns-2 : tie.Need-returns-2
+unfolding setOf
+returns-2 c = search calls
+
+pub set-spec : {M : Type 1} → statement M
+set-spec = tie.close (tie.spec fit-requires store-requires switch-requires returns returns-2)
