@@ -7,6 +7,7 @@ use mathlib.Core.Bool.{Bool, false}
 use mathlib.Core.List.{List, [], _∷_}
 use lib.ListN.{length, getD, set, replicate}
 use Rattle.sensor.specs.declared.single.Sensor.{Sensor}
+use Rattle.sensor.specs.Single.{freshSensor}
 use Rattle.sensor.specs.Sixteen.{conditionsBelow}
 
 pub record Gathered (n count : ℕ) (l : List Sensor) (m : List Bool) (i : ℕ) : Type 0 where
@@ -52,3 +53,21 @@ gather-short n count l m i t h = let e : i ≡ count = omega (arith, t .under) i
 
 pub gather-done : (n count : ℕ) (l : List Sensor) (m : List Bool) (i : ℕ) → Gathered n count l m i → n ≤ i → m ≡ conditionsBelow count l
 gather-done n count l m i t h = t .same ∙ whole i count l (omega (arith, t .long)) (omega (arith, t .long, t .under))
+
+-- ---- one condition of the sixteen
+
+-- below the count it is the sensor's, and at or above it FALSE
+pub condition-below : (n : ℕ) (l : List Sensor) (r : ℕ) → r < n → getD (conditionsBelow n l) r false ≡ getD l r freshSensor .condition
+unfolding conditionsBelow freshSensor
+condition-below zero l r h = absurd (omega arith)
+condition-below (suc n) [] r h = refl
+condition-below (suc n) (s ∷ l) zero h = refl
+condition-below (suc n) (s ∷ l) (suc r) h = condition-below n l r (omega arith)
+
+pub condition-past : (n : ℕ) (l : List Sensor) (r : ℕ) → n ≤ r → getD (conditionsBelow n l) r false ≡ false
+unfolding conditionsBelow
+condition-past n [] r h = refl
+condition-past zero (s ∷ l) zero h = refl
+condition-past zero (s ∷ l) (suc r) h = condition-past zero l r (omega arith)
+condition-past (suc n) (s ∷ l) zero h = absurd (omega arith)
+condition-past (suc n) (s ∷ l) (suc r) h = condition-past n l r (omega arith)

@@ -2,3 +2,8 @@ pub mod Table
 pub mod Arms
 pub mod Fits
 pub mod Gather
+pub mod Motion
+pub mod Ticks
+pub mod Soundness
+pub mod Levels
+pub mod Lag

@@ -12,7 +12,7 @@ abbrev μ-loop : tie.MeasureT-loop
 μ-loop count sensors out₀ i₀ out i = 16 - i
 
 loop-holds : tie.Need-loop-holds Inv-loop μ-loop
-loop-holds c = search (gather-begin, unmapped, needs)
+loop-holds c = search (gather-begin, needs)
 
 returns : tie.Need-returns Inv-loop μ-loop
 returns c = search gather-short

@@ -14,7 +14,7 @@ abbrev μ-loop : tie.MeasureT-loop
 μ-loop most sensors n₀ i₀ n i = 16 - i
 
 loop-holds : tie.Need-loop-holds Inv-loop μ-loop
-loop-holds c = search (fold-begin, unmapped, needs)
+loop-holds c = search (fold-begin, needs)
 
 mul-s : tie.Need-mul-s Inv-loop μ-loop
 mul-s c = search needs

@@ -1,0 +1,169 @@
+-- What single moves do to a sensor: laws of `stepOf` by cause.
+use mathlib.Core.Path.{_≡_, refl, sym, ap, _∙_}
+use mathlib.Core.Bool.{Bool, true, false, cond, Bool·beq, false≢true}
+use Prim.Native.Nat.{ℕ, _-_}
+use native.Mathlib.Omega.{arith}
+use lib.Dec.{eqb}
+use borrow.Author.Tests.{eq-eqb, ne-eqb}
+use Rattle.base.proofs.Cases.{cond-false}
+use Rattle.sensor.specs.declared.moves.Phase.{Phase}
+use Rattle.sensor.specs.declared.moves.Phase.the-variants.{SS0, ST0, SS1, ST1, SS2}
+use Rattle.sensor.specs.declared.moves.Move.{Move}
+use Rattle.sensor.specs.declared.moves.Move.the-variants.{Stays, Enters}
+use Rattle.sensor.specs.declared.moves.Cause.{Cause}
+use Rattle.sensor.specs.declared.moves.Cause.the-variants.{
+  TrueAtOnce,
+  TrueWaiting,
+  FalseAtOnce,
+  FalseWaiting,
+  TimerEnds,
+  EnabledTrueAtOnce,
+  EnabledTrueWaiting,
+  EnabledFalse,
+}
+use Rattle.sensor.specs.declared.single.Sensor.{Sensor}
+use Rattle.sensor.specs.Phases.{isEnabled, whenEnabled, whenDisabled, moveOf, settled, levelAfter}
+use Rattle.sensor.specs.Single.{
+  freshSensor,
+  moved,
+  movedBy,
+  withLevel,
+  withTimer,
+  stepOf,
+  timerIn,
+  turnCause,
+  turnedTo,
+  enableOf,
+  tickOf,
+  loweredBy,
+  powerCycleOf,
+}
+
+settled-off : (p : Phase) (s : Sensor) → timerIn (settled p) s ≡ 0
+settled-off SS0 s = refl
+settled-off ST0 s = refl
+settled-off SS1 s = refl
+settled-off ST1 s = refl
+settled-off SS2 s = refl
+
+-- a timer that ends does not run any more
+pub ended-stops : (s : Sensor) → stepOf TimerEnds s .timer ≡ 0
+unfolding stepOf moveOf
+ended-stops s = settled-off (s .phase) s
+
+-- ---- a turn of the level, by side
+
+-- the timeout of a turn to level l, and the phases in which the sensor then waits and settles
+abbrev pub timeoutTo : Bool → Sensor → ℕ
+timeoutTo l s = cond l (s .«on_timeout») (s .«off_timeout»)
+
+abbrev pub waitingAt : Bool → Phase
+waitingAt l = cond l ST0 ST1
+
+abbrev pub settledAt : Bool → Phase
+settledAt l = cond l SS1 SS2
+
+enters-enabled : (p q : Phase) → isEnabled p ≡ true → whenEnabled p q ≡ Enters q
+enters-enabled p q e = ap (λ (b : Bool). cond b (Enters q) Stays) e
+
+turn-cause : (l : Bool) (s : Sensor) (b : Bool) → eqb (timeoutTo l s) 0 ≡ b
+    → turnCause l s ≡ cond l (cond b TrueAtOnce TrueWaiting) (cond b FalseAtOnce FalseWaiting)
+turn-cause true s b e = ap (λ (x : Bool). cond x TrueAtOnce TrueWaiting) e
+turn-cause false s b e = ap (λ (x : Bool). cond x FalseAtOnce FalseWaiting) e
+
+turns : (l : Bool) (s : Sensor) (c : Cause) → Bool·beq l (s .level) ≡ false → turnCause l s ≡ c → turnedTo l s ≡ stepOf c s
+unfolding turnedTo
+turns l s c e q = sym (cond-false (Bool·beq l (s .level)) s _ _ e (ap (λ (x : Cause). stepOf x s) (sym q)))
+
+-- an enabled sensor whose level turns waits with the condition as it was, for as many ticks as its timeout says
+pub turn-waits : (l : Bool) (s : Sensor) → isEnabled (s .phase) ≡ true → Bool·beq l (s .level) ≡ false → (timeoutTo l s ≡ 0 → ⊥)
+    → turnedTo l s ≡ moved l (waitingAt l) (s .condition) (timeoutTo l s) s
+unfolding stepOf moveOf
+turn-waits true s e d n =
+    turns true s TrueWaiting d (turn-cause true s false (ne-eqb (timeoutTo true s) 0 n)) ∙ rw (enters-enabled (s .phase) ST0 e)
+turn-waits false s e d n =
+    turns false s FalseWaiting d (turn-cause false s false (ne-eqb (timeoutTo false s) 0 n)) ∙ rw (enters-enabled (s .phase) ST1 e)
+
+-- and settles at once where its timeout is 0
+pub turn-settles : (l : Bool) (s : Sensor) → isEnabled (s .phase) ≡ true → Bool·beq l (s .level) ≡ false → timeoutTo l s ≡ 0
+    → turnedTo l s ≡ moved l (settledAt l) l 0 s
+unfolding stepOf moveOf
+turn-settles true s e d n =
+    turns true s TrueAtOnce d (turn-cause true s true (eq-eqb (timeoutTo true s) 0 n)) ∙ rw (enters-enabled (s .phase) SS1 e)
+turn-settles false s e d n =
+    turns false s FalseAtOnce d (turn-cause false s true (eq-eqb (timeoutTo false s) 0 n)) ∙ rw (enters-enabled (s .phase) SS2 e)
+
+-- the level of a disabled sensor turns alone
+off-step : (l b : Bool) (s : Sensor) → s .phase ≡ SS0
+    → stepOf (cond l (cond b TrueAtOnce TrueWaiting) (cond b FalseAtOnce FalseWaiting)) s ≡ withLevel l s
+unfolding stepOf moveOf
+off-step true true s e = rw e
+off-step true false s e = rw e
+off-step false true s e = rw e
+off-step false false s e = rw e
+
+same-level : (a b : Bool) → Bool·beq a b ≡ true → b ≡ a
+same-level true true e = refl
+same-level true false e = e
+same-level false true e = sym e
+same-level false false e = refl
+
+pub turn-off : (l : Bool) (s : Sensor) → s .phase ≡ SS0 → turnedTo l s ≡ withLevel l s
+unfolding turnedTo
+turn-off l s e = go (Bool·beq l (s .level)) refl
+  where
+    go : (b : Bool) → Bool·beq l (s .level) ≡ b → cond b s (stepOf (turnCause l s) s) ≡ withLevel l s
+    go true h = ap (λ (x : Bool). withLevel x s) (same-level l (s .level) h)
+    go false h = ap (λ (c : Cause). stepOf c s) (turn-cause l s (eqb (timeoutTo l s) 0) refl) ∙ off-step l (eqb (timeoutTo l s) 0) s e
+
+-- enabling an enabled sensor does nothing
+pub enable-again : (s : Sensor) → isEnabled (s .phase) ≡ true → enableOf s ≡ s
+unfolding enableOf stepOf moveOf
+enable-again s e = go (s .level)
+  where
+    stay : (q : Phase) → movedBy (whenDisabled (s .phase) q) s ≡ s
+    stay q = ap (λ (b : Bool). movedBy (cond b Stays (Enters q)) s) e
+
+    go : (l : Bool) → stepOf (cond l (cond (eqb (s .«on_timeout») 0) EnabledTrueAtOnce EnabledTrueWaiting) EnabledFalse) s ≡ s
+    go true = at (eqb (s .«on_timeout») 0)
+      where
+        at : (b : Bool) → stepOf (cond b EnabledTrueAtOnce EnabledTrueWaiting) s ≡ s
+        at true = stay SS1
+        at false = stay ST0
+    go false = stay SS2
+
+-- ---- a waiting sensor keeps its condition
+
+abbrev pub isWaiting : Phase → Bool
+isWaiting SS0 = false
+isWaiting ST0 = true
+isWaiting SS1 = false
+isWaiting ST1 = true
+isWaiting SS2 = false
+
+move-keeps : (m : Move) (s : Sensor) → isWaiting (movedBy m s .phase) ≡ true → movedBy m s .condition ≡ s .condition
+move-keeps Stays s e = refl
+move-keeps (Enters SS0) s e = absurd (false≢true e)
+move-keeps (Enters ST0) s e = refl
+move-keeps (Enters SS1) s e = absurd (false≢true e)
+move-keeps (Enters ST1) s e = refl
+move-keeps (Enters SS2) s e = absurd (false≢true e)
+
+-- a sensor that waits after a cause has the condition of before it
+pub step-keeps : (c : Cause) (s : Sensor) → isWaiting (stepOf c s .phase) ≡ true → stepOf c s .condition ≡ s .condition
+unfolding stepOf
+step-keeps c s e = move-keeps (moveOf (s .phase) c) (withLevel (levelAfter c (s .level)) s) e
+
+-- ---- the fresh sensor stays as it is
+
+pub fresh-tick : tickOf freshSensor ≡ freshSensor
+unfolding tickOf freshSensor
+fresh-tick = refl
+
+pub fresh-lowered : (k : ℕ) → loweredBy k freshSensor ≡ freshSensor
+unfolding freshSensor
+fresh-lowered k = let e : 0 - k ≡ 0 = omega arith in ap (λ (t : ℕ). withTimer t freshSensor) e
+
+pub fresh-power-cycle : powerCycleOf freshSensor ≡ freshSensor
+unfolding powerCycleOf stepOf moveOf freshSensor
+fresh-power-cycle = refl
