@@ -5,7 +5,7 @@ use native.Mathlib.Numerals.{add-one}
 use native.Mathlib.Omega.{arith}
 use mathlib.Core.Bool.{Bool, true, false, cond, _||_, false≢true}
 use mathlib.Core.List.{List, [], _∷_, map}
-use lib.ListN.{length, getD, set, drop, length-map}
+use lib.ListN.{length, getD, set, length-map}
 use Rattle.base.specs.Lists.{oneIf}
 
 -- f at the first i elements, and the rest as it was

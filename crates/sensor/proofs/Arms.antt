@@ -2,16 +2,16 @@
 use mathlib.Core.Path.{_≡_, refl, sym, ap, _∙_}
 use Prim.Native.Nat.{ℕ, _-_, _<_, _≤_}
 use native.Mathlib.Omega.{arith}
-use mathlib.Core.Bool.{Bool, true, false, not, Bool·beq, true≢false, false≢true}
+use mathlib.Core.Bool.{Bool, true, false, Bool·beq, false≢true}
 use lib.Dec.{ltb, eqb}
 use borrow.Author.Tests.{le-ltb, eq-eqb, ne-eqb}
 use Rattle.base.proofs.Cases.{cond-true, cond-false}
-use Rattle.sensor.specs.declared.moves.Phase.{Phase}
-use Rattle.sensor.specs.declared.moves.Move.{Move}
-use Rattle.sensor.specs.declared.moves.Move.the-variants.{Stays, Enters}
-use Rattle.sensor.specs.declared.moves.Cause.{Cause}
+use Rattle.phases.specs.declared.Phase.{Phase}
+use Rattle.phases.specs.declared.Move.{Move}
+use Rattle.phases.specs.declared.Move.the-variants.{Stays, Enters}
+use Rattle.phases.specs.declared.Cause.{Cause}
 use Rattle.sensor.specs.declared.single.Sensor.{Sensor}
-use Rattle.sensor.specs.Phases.{moveOf, levelAfter}
+use Rattle.phases.specs.Phases.{moveOf, levelAfter}
 use Rattle.sensor.specs.Single.{withLevel, movedBy, entering, stepOf, turnCause, turnedTo, judgeOf, readingOf, readingAnswer, quietOf, withTimer, loweredBy}
 use Rattle.sensor.specs.Level.{greatestReading}
 use Rattle.sensor.specs.declared.columns.SensorColumns.{SensorColumns}

@@ -1,15 +1,15 @@
 -- How long a condition lags: a timer with T ticks to go leaves the condition as it is for T - 1 ticks, and at the T-th it equals the level.
 use mathlib.Core.Path.{_≡_, refl, sym, ap, _∙_}
-use mathlib.Core.Bool.{Bool, true, false}
-use Prim.Native.Nat.{ℕ, zero, suc, _+_, _-_, _<_}
+use mathlib.Core.Bool.{Bool}
+use Prim.Native.Nat.{ℕ, _+_, _-_, _<_}
 use native.Mathlib.Omega.{arith}
 use Rattle.base.specs.Ticks.{ticks}
 use Rattle.base.proofs.Jumps.{quiet-ticks, ticks-add}
-use Rattle.sensor.specs.declared.moves.Phase.{Phase}
-use Rattle.sensor.specs.declared.moves.Phase.the-variants.{SS0, ST0, SS1, ST1, SS2}
-use Rattle.sensor.specs.declared.moves.Cause.the-variants.{TimerEnds}
+use Rattle.phases.specs.declared.Phase.{Phase}
+use Rattle.phases.specs.declared.Phase.the-variants.{SS0, ST0, SS1, ST1, SS2}
+use Rattle.phases.specs.declared.Cause.the-variants.{TimerEnds}
 use Rattle.sensor.specs.declared.single.Sensor.{Sensor}
-use Rattle.sensor.specs.Phases.{conditionIn, settled, moveOf}
+use Rattle.phases.specs.Phases.{conditionIn, settled, moveOf}
 use Rattle.sensor.specs.Single.{tickOf, stepOf, loweredBy, endsNext}
 use Rattle.sensor.specs.Sound.{TimerAgrees, LevelAgrees, Sound}
 use Rattle.sensor.proofs.Ticks.{QuietFor, quiet-below, sensor-jumps, tick-last}

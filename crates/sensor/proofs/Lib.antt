@@ -1,7 +1,5 @@
-pub mod Table
 pub mod Arms
 pub mod Fits
-pub mod Gather
 pub mod Motion
 pub mod Ticks
 pub mod Soundness

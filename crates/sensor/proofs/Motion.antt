@@ -6,12 +6,12 @@ use native.Mathlib.Omega.{arith}
 use lib.Dec.{eqb}
 use borrow.Author.Tests.{eq-eqb, ne-eqb}
 use Rattle.base.proofs.Cases.{cond-false}
-use Rattle.sensor.specs.declared.moves.Phase.{Phase}
-use Rattle.sensor.specs.declared.moves.Phase.the-variants.{SS0, ST0, SS1, ST1, SS2}
-use Rattle.sensor.specs.declared.moves.Move.{Move}
-use Rattle.sensor.specs.declared.moves.Move.the-variants.{Stays, Enters}
-use Rattle.sensor.specs.declared.moves.Cause.{Cause}
-use Rattle.sensor.specs.declared.moves.Cause.the-variants.{
+use Rattle.phases.specs.declared.Phase.{Phase}
+use Rattle.phases.specs.declared.Phase.the-variants.{SS0, ST0, SS1, ST1, SS2}
+use Rattle.phases.specs.declared.Move.{Move}
+use Rattle.phases.specs.declared.Move.the-variants.{Stays, Enters}
+use Rattle.phases.specs.declared.Cause.{Cause}
+use Rattle.phases.specs.declared.Cause.the-variants.{
   TrueAtOnce,
   TrueWaiting,
   FalseAtOnce,
@@ -22,7 +22,7 @@ use Rattle.sensor.specs.declared.moves.Cause.the-variants.{
   EnabledFalse,
 }
 use Rattle.sensor.specs.declared.single.Sensor.{Sensor}
-use Rattle.sensor.specs.Phases.{isEnabled, whenEnabled, whenDisabled, moveOf, settled, levelAfter}
+use Rattle.phases.specs.Phases.{isEnabled, whenEnabled, whenDisabled, moveOf, settled, levelAfter}
 use Rattle.sensor.specs.Single.{
   freshSensor,
   moved,

@@ -1,17 +1,17 @@
 -- Every sensor that events reach is sound: the fresh one is, and every method keeps it.
-use mathlib.Core.Path.{_≡_, refl, sym, ap, _∙_, subst}
-use mathlib.Core.Bool.{Bool, true, false, cond, Bool·beq, true≢false, false≢true}
-use Prim.Native.Nat.{ℕ, zero, suc, _-_, _<_, _≤_}
+use mathlib.Core.Path.{_≡_, refl, subst}
+use mathlib.Core.Bool.{Bool, true, false, cond, Bool·beq}
+use Prim.Native.Nat.{ℕ, zero, suc, _-_, _≤_}
 use native.Mathlib.Omega.{arith}
 use lib.Dec.{eqb, ltb}
-use borrow.Author.Tests.{eqb-true, eqb-false, leb-true}
+use borrow.Author.Tests.{eqb-false, leb-true}
 use Rattle.base.specs.Columns.{named, within}
-use Rattle.sensor.specs.declared.moves.Phase.{Phase}
-use Rattle.sensor.specs.declared.moves.Phase.the-variants.{SS0, ST0, SS1, ST1, SS2}
-use Rattle.sensor.specs.declared.moves.Move.{Move}
-use Rattle.sensor.specs.declared.moves.Move.the-variants.{Stays, Enters}
-use Rattle.sensor.specs.declared.moves.Cause.{Cause}
-use Rattle.sensor.specs.declared.moves.Cause.the-variants.{
+use Rattle.phases.specs.declared.Phase.{Phase}
+use Rattle.phases.specs.declared.Phase.the-variants.{SS0, ST0, SS1, ST1, SS2}
+use Rattle.phases.specs.declared.Move.{Move}
+use Rattle.phases.specs.declared.Move.the-variants.{Stays, Enters}
+use Rattle.phases.specs.declared.Cause.{Cause}
+use Rattle.phases.specs.declared.Cause.the-variants.{
   TrueAtOnce,
   TrueWaiting,
   FalseAtOnce,
@@ -25,7 +25,7 @@ use Rattle.sensor.specs.declared.moves.Cause.the-variants.{
 }
 use Rattle.sensor.specs.declared.single.Sensor.{Sensor}
 use Rattle.sensor.specs.declared.columns.SensorColumns.{SensorColumns}
-use Rattle.sensor.specs.Phases.{isEnabled, conditionIn, whenEnabled, whenDisabled, settled, powerCycled, moveOf, levelAfter}
+use Rattle.phases.specs.Phases.{conditionIn, whenEnabled, whenDisabled, settled, powerCycled, moveOf}
 use Rattle.sensor.specs.Level.{greatestReading}
 use Rattle.sensor.specs.Single.{
   freshSensor,

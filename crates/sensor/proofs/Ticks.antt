@@ -1,20 +1,18 @@
--- Ticks of one sensor and of a list of them: by the ticks to go, and k quiet ticks at once.
+-- Ticks of one sensor: by the ticks to go, k quiet ticks at once, and the ticks before its timer ends.
 use mathlib.Core.Path.{_≡_, refl, sym, ap, _∙_, subst}
-use mathlib.Core.Bool.{Bool, true, false, cond, _||_}
-use mathlib.Core.List.{List, [], _∷_, map, foldl}
-use mathlib.Core.Logic.{_⊎_, inl, inr, ⊎-elim}
+use mathlib.Core.Bool.{Bool, true, false, cond}
+use mathlib.Core.Logic.{_⊎_, inl, inr}
 use Prim.Native.Nat.{ℕ, zero, suc, _+_, _-_, _<_, _≤_, min}
 use native.Mathlib.Omega.{arith}
 use lib.Dec.{eqb, ltb}
-use borrow.Author.Tests.{eq-eqb, ne-eqb, eqb-true, eqb-false, lt-ltb, ltb-true, ltb-false}
-use Rattle.base.specs.Lists.{oneIf, any, count}
+use borrow.Author.Tests.{eq-eqb, ne-eqb, eqb-false, lt-ltb, ltb-true, ltb-false}
+use Rattle.base.specs.Lists.{oneIf}
 use Rattle.base.proofs.Cases.{cond-true, cond-false}
-use Rattle.base.proofs.Lists.{or-le, oneIf-le}
+use Rattle.base.proofs.Lists.{oneIf-le}
 use Rattle.base.proofs.Jumps.{Jumps}
 use Rattle.sensor.specs.declared.single.Sensor.{Sensor}
-use Rattle.sensor.specs.declared.moves.Cause.the-variants.{TimerEnds}
+use Rattle.phases.specs.declared.Cause.the-variants.{TimerEnds}
 use Rattle.sensor.specs.Single.{tickOf, stepOf, withTimer, loweredBy, endsNext, runs, quietOf}
-use Rattle.sensor.specs.Sixteen.{quietTicks, conditionsBelow}
 use Rattle.sensor.proofs.Motion.{ended-stops}
 
 -- ---- one sensor
@@ -44,30 +42,30 @@ pub quiet-below : (k t : ℕ) → k < t → QuietFor k t
 quiet-below k zero h = tt
 quiet-below k (suc t) h = omega arith
 
-quiet-less : (j k t : ℕ) → j ≤ k → QuietFor k t → QuietFor j t
+pub quiet-less : (j k t : ℕ) → j ≤ k → QuietFor k t → QuietFor j t
 quiet-less j k zero h q = tt
 quiet-less j k (suc t) h q = omega arith
 
-quiet-next : (k t : ℕ) → QuietFor (suc k) t → QuietFor k (t - 1)
+pub quiet-next : (k t : ℕ) → QuietFor (suc k) t → QuietFor k (t - 1)
 quiet-next k zero q = tt
 quiet-next k (suc zero) q = absurd (omega arith)
 quiet-next k (suc (suc t)) q = let e : suc t ≡ suc (suc t) - 1 = omega arith in subst (QuietFor k) e (omega arith)
 
-not-last : (k t : ℕ) → QuietFor (suc k) t → t ≡ 1 → ⊥
+pub not-last : (k t : ℕ) → QuietFor (suc k) t → t ≡ 1 → ⊥
 not-last k zero q e = omega arith
 not-last k (suc t) q e = omega arith
 
 same-timer : (s : Sensor) (t : ℕ) → t ≡ s .timer → withTimer t s ≡ s
 same-timer s t e = ap (λ (n : ℕ). withTimer n s) e
 
-tick-lowers : (k : ℕ) (s : Sensor) (t : ℕ) → s .timer ≡ t → QuietFor (suc k) t → tickOf s ≡ loweredBy 1 s
+pub tick-lowers : (k : ℕ) (s : Sensor) (t : ℕ) → s .timer ≡ t → QuietFor (suc k) t → tickOf s ≡ loweredBy 1 s
 tick-lowers k s zero e q = tick-none s e ∙ sym (same-timer s (s .timer - 1) (omega arith))
 tick-lowers k s (suc t) e q = tick-more s (omega arith)
 
-lowered-none : (s : Sensor) → loweredBy 0 s ≡ s
+pub lowered-none : (s : Sensor) → loweredBy 0 s ≡ s
 lowered-none s = same-timer s (s .timer - 0) (omega arith)
 
-lowered-more : (k : ℕ) (s : Sensor) → loweredBy k (loweredBy 1 s) ≡ loweredBy (suc k) s
+pub lowered-more : (k : ℕ) (s : Sensor) → loweredBy k (loweredBy 1 s) ≡ loweredBy (suc k) s
 lowered-more k s = let e : s .timer - 1 - k ≡ s .timer - suc k = omega arith in ap (λ (n : ℕ). withTimer n s) e
 
 -- lowering by k stands for k quiet ticks of one sensor
@@ -80,85 +78,22 @@ sensor-jumps = record {
   next = λ k s q. quiet-next k (s .timer) q;
 }
 
--- ---- a list of sensors
+-- the ticks before the end
 
--- no timer of the list ends within k ticks
-abbrev pub AllQuiet : ℕ → List Sensor → Type 0
-AllQuiet k [] = Unit {0}
-AllQuiet k (s ∷ l) = QuietFor k (s .timer) × AllQuiet k l
-
-all-tick : (k : ℕ) (l : List Sensor) → AllQuiet (suc k) l → map tickOf l ≡ map (loweredBy 1) l
-all-tick k [] q = refl
-all-tick k (s ∷ l) q = λ i. tick-lowers k s (s .timer) refl (q .0) i ∷ all-tick k l (q .1) i
-
-all-next : (k : ℕ) (l : List Sensor) → AllQuiet (suc k) l → AllQuiet k (map (loweredBy 1) l)
-all-next k [] q = tt
-all-next k (s ∷ l) q = (quiet-next k (s .timer) (q .0), all-next k l (q .1))
-
-none-last : (k : ℕ) (l : List Sensor) → AllQuiet (suc k) l → any endsNext l ≡ false
-unfolding any
-none-last k [] q = refl
-none-last k (s ∷ l) q = rw (ne-eqb (s .timer) 1 (not-last k (s .timer) (q .0))) (none-last k l (q .1))
-
-all-none : (l : List Sensor) → map (loweredBy 0) l ≡ l
-all-none [] = refl
-all-none (s ∷ l) = λ i. lowered-none s i ∷ all-none l i
-
-all-more : (k : ℕ) (l : List Sensor) → map (loweredBy k) (map (loweredBy 1) l) ≡ map (loweredBy (suc k)) l
-all-more k [] = refl
-all-more k (s ∷ l) = λ i. lowered-more k s i ∷ all-more k l i
-
--- lowering by k stands for k quiet ticks of all
-pub sensors-jump : Jumps (map tickOf) (any endsNext) (λ k l. map (loweredBy k) l) AllQuiet
-sensors-jump = record {
-  none = λ l q. all-none l;
-  more = λ k l q. all-more k l;
-  no-stop = none-last;
-  one = all-tick;
-  next = all-next;
-}
-
--- lowering changes no condition
-pub lowered-conditions : (k n : ℕ) (l : List Sensor) → conditionsBelow n (map (loweredBy k) l) ≡ conditionsBelow n l
-unfolding conditionsBelow
-lowered-conditions k n [] = refl
-lowered-conditions k zero (s ∷ l) = ap {B = List Bool} (λ r. false ∷ r) (lowered-conditions k zero l)
-lowered-conditions k (suc n) (s ∷ l) = ap {B = List Bool} (λ r. s .condition ∷ r) (lowered-conditions k n l)
-
--- ---- the ticks before the next end
-
-quietOf-le : (n : ℕ) (s : Sensor) → quietOf n s ≤ n
+pub quietOf-le : (n : ℕ) (s : Sensor) → quietOf n s ≤ n
 quietOf-le n s = go (eqb (s .timer) 0)
   where
     go : (b : Bool) → cond b n (min n (s .timer - 1)) ≤ n
     go true = omega arith
     go false = omega arith
 
-quietOf-quiet : (n : ℕ) (s : Sensor) (t : ℕ) → s .timer ≡ t → QuietFor (quietOf n s) t
+-- so many ticks do not end the timer
+pub quietOf-quiet : (n : ℕ) (s : Sensor) (t : ℕ) → s .timer ≡ t → QuietFor (quietOf n s) t
 quietOf-quiet n s zero e = tt
 quietOf-quiet n s (suc t) e = rw (ne-eqb (s .timer) 0 (omega arith)) (omega arith)
 
-pub quietTicks-le : (n : ℕ) (l : List Sensor) → quietTicks n l ≤ n
-unfolding quietTicks
-quietTicks-le n [] = omega arith
-quietTicks-le n (s ∷ l) = omega (arith, quietTicks-le (quietOf n s) l, quietOf-le n s)
-
--- so many ticks end no timer
-pub quietTicks-quiet : (n : ℕ) (l : List Sensor) → AllQuiet (quietTicks n l) l
-unfolding quietTicks
-quietTicks-quiet n [] = tt
-quietTicks-quiet n (s ∷ l) =
-    (quiet-less _ (quietOf n s) (s .timer) (quietTicks-le (quietOf n s) l) (quietOf-quiet n s (s .timer) refl), quietTicks-quiet (quietOf n s) l)
-
-or-left : (a b : Bool) → a ≡ true → (a || b) ≡ true
-or-left true b e = refl
-or-left false b e = absurd (mathlib.Core.Bool.false≢true e)
-
-or-right : (a b : Bool) → b ≡ true → (a || b) ≡ true
-or-right true b e = refl
-or-right false b e = e
-
-quietOf-most : (n : ℕ) (s : Sensor) → (quietOf n s ≡ n) ⊎ (s .timer - quietOf n s ≡ 1)
+-- and no more of them: then the limit is reached, or the next tick ends the timer
+pub quietOf-most : (n : ℕ) (s : Sensor) → (quietOf n s ≡ n) ⊎ (s .timer - quietOf n s ≡ 1)
 quietOf-most n s = go (eqb (s .timer) 0) refl
   where
     on : (b : Bool) → (s .timer ≡ 0 → ⊥) → ltb (s .timer - 1) n ≡ b → (min n (s .timer - 1) ≡ n) ⊎ (s .timer - min n (s .timer - 1) ≡ 1)
@@ -169,23 +104,8 @@ quietOf-most n s = go (eqb (s .timer) 0) refl
     go true e = inl refl
     go false e = on (ltb (s .timer - 1) n) (eqb-false (s .timer) 0 e) refl
 
--- and no more of them: then the limit is reached, or the next tick ends a timer
-pub quietTicks-most : (n : ℕ) (l : List Sensor) → (quietTicks n l ≡ n) ⊎ (any endsNext (map (loweredBy (quietTicks n l)) l) ≡ true)
-unfolding quietTicks any
-quietTicks-most n [] = inl refl
-quietTicks-most n (s ∷ l) =
-    let k : ℕ = quietTicks (quietOf n s) l in
-    ⊎-elim
-    (λ e. ⊎-elim
-    (λ f. inl (e ∙ f))
-    (λ f. inr (or-left (eqb (s .timer - k) 1) _ (eq-eqb (s .timer - k) 1 (ap (λ (m : ℕ). s .timer - m) e ∙ f))))
-    (quietOf-most n s))
-    (λ f. inr (or-right (eqb (s .timer - k) 1) _ f))
-    (quietTicks-most (quietOf n s) l)
-
--- ---- stops use up running timers
-
-ends-runs : (s : Sensor) (t : ℕ) → s .timer ≡ t → oneIf (endsNext s) + oneIf (runs (tickOf s)) ≤ oneIf (runs s)
+-- a timer that ends does not run any more, and no timer starts
+pub ends-runs : (s : Sensor) (t : ℕ) → s .timer ≡ t → oneIf (endsNext s) + oneIf (runs (tickOf s)) ≤ oneIf (runs s)
 ends-runs s zero e = rw (tick-none s e, e) (omega arith)
 ends-runs s (suc zero) e = rw (tick-last s e, ended-stops s, e) (omega arith)
 ends-runs s (suc (suc t)) e =
@@ -197,17 +117,6 @@ ends-runs s (suc (suc t)) e =
       ap oneIf (lt-ltb 0 (tickOf s .timer) (omega arith)),
     )
 
-pub stop-uses : (l : List Sensor) → oneIf (any endsNext l) + count runs (map tickOf l) ≤ count runs l
-unfolding any count
-stop-uses [] = omega arith
-stop-uses (s ∷ l) = omega (arith, or-le (endsNext s) (any endsNext l), ends-runs s (s .timer) refl, stop-uses l)
-
-runs-less : (k t : ℕ) → oneIf (ltb 0 (t - k)) ≤ oneIf (ltb 0 t)
+pub runs-less : (k t : ℕ) → oneIf (ltb 0 (t - k)) ≤ oneIf (ltb 0 t)
 runs-less k zero = let e : zero - k ≡ 0 = omega arith in rw e (omega arith)
 runs-less k (suc t) = rw (lt-ltb 0 (suc t) (omega arith)) (oneIf-le (ltb 0 (suc t - k)))
-
--- lowering starts no timer
-pub lowered-running : (k : ℕ) (l : List Sensor) → count runs (map (loweredBy k) l) ≤ count runs l
-unfolding count
-lowered-running k [] = omega arith
-lowered-running k (s ∷ l) = omega (arith, runs-less k (s .timer), lowered-running k l)

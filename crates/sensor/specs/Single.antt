@@ -2,15 +2,15 @@
 -- timer runs where it is not 0; so every value of the type has a meaning, also one that no event reaches.
 use Prim.Native.Nat.{ℕ, _-_, min}
 use mathlib.Core.Path.{_≡_}
-use mathlib.Core.Bool.{Bool, true, false, cond, Bool·beq}
-use lib.Dec.{eqb, leb, ltb}
+use mathlib.Core.Bool.{Bool, false, cond, Bool·beq}
+use lib.Dec.{eqb, ltb}
 use Rattle.answer.specs.Numbers.{numberOf}
-use Rattle.sensor.specs.declared.moves.Phase.{Phase}
-use Rattle.sensor.specs.declared.moves.Phase.the-variants.{SS0, ST0, SS1, ST1, SS2}
-use Rattle.sensor.specs.declared.moves.Move.{Move}
-use Rattle.sensor.specs.declared.moves.Move.the-variants.{Stays, Enters}
-use Rattle.sensor.specs.declared.moves.Cause.{Cause}
-use Rattle.sensor.specs.declared.moves.Cause.the-variants.{
+use Rattle.phases.specs.declared.Phase.{Phase}
+use Rattle.phases.specs.declared.Phase.the-variants.{SS0, ST0, SS1, ST1, SS2}
+use Rattle.phases.specs.declared.Move.{Move}
+use Rattle.phases.specs.declared.Move.the-variants.{Stays, Enters}
+use Rattle.phases.specs.declared.Cause.{Cause}
+use Rattle.phases.specs.declared.Cause.the-variants.{
   TrueAtOnce,
   TrueWaiting,
   FalseAtOnce,
@@ -24,7 +24,7 @@ use Rattle.sensor.specs.declared.moves.Cause.the-variants.{
 }
 use Rattle.sensor.specs.declared.single.Sensor.{Sensor}
 use Rattle.sensor.specs.declared.single.SensorAnswer.{SensorAnswer}
-use Rattle.sensor.specs.Phases.{conditionIn, moveOf, levelAfter}
+use Rattle.phases.specs.Phases.{conditionIn, moveOf, levelAfter}
 use Rattle.sensor.specs.Level.{greatestReading, thousandths, levelRule}
 
 -- "Fresh: all columns 0, .. levels FALSE, phases SS0."

@@ -93,7 +93,8 @@ impl Sensor {
         ensures { λ r. ⌜ Answers (setAnswer columns) (setOf columns self) r ⌝ }
     {
         if columns.fit() {
-            let sensor = self.store(columns).switch(columns);
+            let stored = self.store(columns);
+            let sensor = stored.switch(columns);
             return SensorAnswer {
                 answer: Answer::Done,
                 sensor,

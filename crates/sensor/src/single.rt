@@ -2,35 +2,11 @@
 ghost use mathlib.Core.Path.{_≡_};
 ghost use mathlib.Core.Bool.{Bool·beq};
 ghost use Rattle.sensor.specs.Level.{thousandths, levelRule};
-ghost use Rattle.sensor.specs.Single.{
-  freshSensor,
-  onOf,
-  offOf,
-  judgeOf,
-  withLevel,
-  withTimer,
-  timerIn,
-  entering,
-  stepOf,
-  turnCause,
-  turnedTo,
-  readingAnswer,
-  readingOf,
-  enableCause,
-  enableOf,
-  disableOf,
-  powerCycleOf,
-  tickOf,
-  loweredBy,
-  runs,
-  endsNext,
-  quietOf,
-  Answers,
-};
-use crate::moves::Cause;
-use crate::moves::Move;
-use crate::moves::Phase;
+ghost use Rattle.sensor.specs.Single.{freshSensor, judgeOf, withLevel, withTimer, timerIn, entering, stepOf, turnCause, turnedTo, readingAnswer, readingOf, enableCause, enableOf, disableOf, powerCycleOf, tickOf, loweredBy, runs, endsNext, quietOf, Answers};
 use answer::Answer;
+use phases::Cause;
+use phases::Move;
+use phases::Phase;
 
 // The columns, and then what moves: a sensor is enabled where its phase is not SS0, and its timer runs where it is not 0.
 pub struct Sensor {

@@ -1,8 +1,8 @@
 // Prints the table of moves and then seven runs of one sensor, from the fresh one. A line of a run is an answer and then the sensor's
 // level, phase, condition and ticks to go, as in the listing.
-use sensor::Cause;
-use sensor::Move;
-use sensor::Phase;
+use phases::Cause;
+use phases::Move;
+use phases::Phase;
 use sensor::Sensor;
 use sensor::SensorAnswer;
 use sensor::SensorColumns;
@@ -50,7 +50,15 @@ fn power_cycle(s: Sensor) -> Sensor {
 }
 
 // A Set of every column.
-fn set_all(s: Sensor, on: u64, on_fraction: u64, on_timeout: u64, off: u64, off_fraction: u64, off_timeout: u64) -> Sensor {
+fn set_all(
+    s: Sensor,
+    on: u64,
+    on_fraction: u64,
+    on_timeout: u64,
+    off: u64,
+    off_fraction: u64,
+    off_timeout: u64,
+) -> Sensor {
     let columns = SensorColumns {
         mask: 127,
         enabled: 1,

@@ -1,0 +1,121 @@
+-- Ticks of the sensors of a drive: k quiet ticks at once, the ticks before the next end, and stops that use up running timers.
+use mathlib.Core.Path.{_≡_, refl, ap, _∙_}
+use mathlib.Core.Bool.{Bool, true, false, _||_, false≢true}
+use mathlib.Core.List.{List, [], _∷_, map}
+use mathlib.Core.Logic.{_⊎_, inl, inr, ⊎-elim}
+use Prim.Native.Nat.{ℕ, zero, suc, _+_, _-_, _≤_}
+use native.Mathlib.Omega.{arith}
+use lib.Dec.{eqb}
+use borrow.Author.Tests.{eq-eqb, ne-eqb}
+use Rattle.base.specs.Lists.{oneIf, any, count}
+use Rattle.base.proofs.Lists.{or-le}
+use Rattle.base.proofs.Jumps.{Jumps}
+use Rattle.sensor.specs.declared.single.Sensor.{Sensor}
+use Rattle.sensor.specs.Single.{tickOf, loweredBy, endsNext, runs, quietOf}
+use Rattle.sensor.proofs.Ticks.{
+  QuietFor,
+  quiet-less,
+  quiet-next,
+  not-last,
+  tick-lowers,
+  lowered-none,
+  lowered-more,
+  quietOf-le,
+  quietOf-quiet,
+  quietOf-most,
+  ends-runs,
+  runs-less,
+}
+use Rattle.sensors.specs.Sixteen.{quietTicks, conditionsBelow}
+
+-- no timer of the list ends within k ticks
+abbrev pub AllQuiet : ℕ → List Sensor → Type 0
+AllQuiet k [] = Unit {0}
+AllQuiet k (s ∷ l) = QuietFor k (s .timer) × AllQuiet k l
+
+all-tick : (k : ℕ) (l : List Sensor) → AllQuiet (suc k) l → map tickOf l ≡ map (loweredBy 1) l
+all-tick k [] q = refl
+all-tick k (s ∷ l) q = λ i. tick-lowers k s (s .timer) refl (q .0) i ∷ all-tick k l (q .1) i
+
+all-next : (k : ℕ) (l : List Sensor) → AllQuiet (suc k) l → AllQuiet k (map (loweredBy 1) l)
+all-next k [] q = tt
+all-next k (s ∷ l) q = (quiet-next k (s .timer) (q .0), all-next k l (q .1))
+
+none-last : (k : ℕ) (l : List Sensor) → AllQuiet (suc k) l → any endsNext l ≡ false
+unfolding any
+none-last k [] q = refl
+none-last k (s ∷ l) q = rw (ne-eqb (s .timer) 1 (not-last k (s .timer) (q .0))) (none-last k l (q .1))
+
+all-none : (l : List Sensor) → map (loweredBy 0) l ≡ l
+all-none [] = refl
+all-none (s ∷ l) = λ i. lowered-none s i ∷ all-none l i
+
+all-more : (k : ℕ) (l : List Sensor) → map (loweredBy k) (map (loweredBy 1) l) ≡ map (loweredBy (suc k)) l
+all-more k [] = refl
+all-more k (s ∷ l) = λ i. lowered-more k s i ∷ all-more k l i
+
+-- lowering by k stands for k quiet ticks of all
+pub sensors-jump : Jumps (map tickOf) (any endsNext) (λ k l. map (loweredBy k) l) AllQuiet
+sensors-jump = record {
+  none = λ l q. all-none l;
+  more = λ k l q. all-more k l;
+  no-stop = none-last;
+  one = all-tick;
+  next = all-next;
+}
+
+-- lowering changes no condition
+pub lowered-conditions : (k n : ℕ) (l : List Sensor) → conditionsBelow n (map (loweredBy k) l) ≡ conditionsBelow n l
+unfolding conditionsBelow
+lowered-conditions k n [] = refl
+lowered-conditions k zero (s ∷ l) = ap {B = List Bool} (λ r. false ∷ r) (lowered-conditions k zero l)
+lowered-conditions k (suc n) (s ∷ l) = ap {B = List Bool} (λ r. s .condition ∷ r) (lowered-conditions k n l)
+
+-- ---- the ticks before the next end
+
+pub quietTicks-le : (n : ℕ) (l : List Sensor) → quietTicks n l ≤ n
+unfolding quietTicks
+quietTicks-le n [] = omega arith
+quietTicks-le n (s ∷ l) = omega (arith, quietTicks-le (quietOf n s) l, quietOf-le n s)
+
+-- so many ticks end no timer
+pub quietTicks-quiet : (n : ℕ) (l : List Sensor) → AllQuiet (quietTicks n l) l
+unfolding quietTicks
+quietTicks-quiet n [] = tt
+quietTicks-quiet n (s ∷ l) =
+    (quiet-less _ (quietOf n s) (s .timer) (quietTicks-le (quietOf n s) l) (quietOf-quiet n s (s .timer) refl), quietTicks-quiet (quietOf n s) l)
+
+or-left : (a b : Bool) → a ≡ true → (a || b) ≡ true
+or-left true b e = refl
+or-left false b e = absurd (false≢true e)
+
+or-right : (a b : Bool) → b ≡ true → (a || b) ≡ true
+or-right true b e = refl
+or-right false b e = e
+
+-- and no more of them: then the limit is reached, or the next tick ends a timer
+pub quietTicks-most : (n : ℕ) (l : List Sensor) → (quietTicks n l ≡ n) ⊎ (any endsNext (map (loweredBy (quietTicks n l)) l) ≡ true)
+unfolding quietTicks any
+quietTicks-most n [] = inl refl
+quietTicks-most n (s ∷ l) =
+    let k : ℕ = quietTicks (quietOf n s) l in
+    ⊎-elim
+    (λ e. ⊎-elim
+    (λ f. inl (e ∙ f))
+    (λ f. inr (or-left (eqb (s .timer - k) 1) _ (eq-eqb (s .timer - k) 1 (ap (λ (m : ℕ). s .timer - m) e ∙ f))))
+    (quietOf-most n s))
+    (λ f. inr (or-right (eqb (s .timer - k) 1) _ f))
+    (quietTicks-most (quietOf n s) l)
+
+-- ---- stops use up running timers
+
+pub stop-uses : (l : List Sensor) → oneIf (any endsNext l) + count runs (map tickOf l) ≤ count runs l
+unfolding any count
+stop-uses [] = omega arith
+stop-uses (s ∷ l) = omega (arith, or-le (endsNext s) (any endsNext l), ends-runs s (s .timer) refl, stop-uses l)
+
+-- lowering starts no timer
+pub lowered-running : (k : ℕ) (l : List Sensor) → count runs (map (loweredBy k) l) ≤ count runs l
+unfolding count
+lowered-running k [] = omega arith
+lowered-running k (s ∷ l) = omega (arith, runs-less k (s .timer), lowered-running k l)

@@ -1,0 +1,102 @@
+// The sensors of a drive (document 01, 'Sensors'), by value: what a tick, a jump over quiet ticks and a power cycle make of all sixteen.
+ghost use mathlib.Core.Path.{_≡_};
+ghost use mathlib.Core.List.{map};
+ghost use Rattle.base.specs.Lists.{any, oneIf};
+ghost use Rattle.base.specs.Lists.{count as countOf};
+ghost use Rattle.sensor.specs.Single.{tickOf, loweredBy, powerCycleOf, runs, endsNext};
+ghost use Rattle.sensors.specs.Sixteen.{quietTicks, conditionsBelow};
+use sensor::Sensor;
+
+// Each sensor after a tick.
+pub fn tick_all(sensors: [Sensor; 16]) -> [Sensor; 16]
+    ensures { λ r. ⌜ r ≡ map tickOf sensors ⌝ }
+{
+    let mut out = sensors;
+    for i in 0..16 {
+        let s = out[i];
+        out[i] = s.tick();
+    }
+    out
+}
+
+// Each sensor after k ticks that end no timer.
+pub fn lower_all(sensors: [Sensor; 16], k: u32) -> [Sensor; 16]
+    ensures { λ r. ⌜ r ≡ map (loweredBy k) sensors ⌝ }
+{
+    let mut out = sensors;
+    for i in 0..16 {
+        let s = out[i];
+        out[i] = s.lower(k);
+    }
+    out
+}
+
+// Each sensor after a power cycle.
+pub fn power_cycle_all(sensors: [Sensor; 16]) -> [Sensor; 16]
+    ensures { λ r. ⌜ r ≡ map powerCycleOf sensors ⌝ }
+{
+    let mut out = sensors;
+    for i in 0..16 {
+        let s = out[i];
+        out[i] = s.power_cycle();
+    }
+    out
+}
+
+// Whether some timer ends at the next tick.
+pub fn some_ends(sensors: [Sensor; 16]) -> bool
+    ensures { λ r. ⌜ r ≡ any endsNext sensors ⌝ }
+{
+    for i in 0..16 {
+        let s = sensors[i];
+        if s.ends_next() {
+            return true;
+        }
+    }
+    false
+}
+
+// The ticks that pass before some timer ends, `most` at most.
+pub fn quiet_ticks(sensors: [Sensor; 16], most: u32) -> u32
+    ensures { λ r. ⌜ r ≡ quietTicks most sensors ⌝ }
+{
+    let mut n = most;
+    for i in 0..16 {
+        let s = sensors[i];
+        n = s.quiet(n);
+    }
+    n
+}
+
+// How many timers run.
+pub fn running(sensors: [Sensor; 16]) -> usize
+    ensures { λ r. ⌜ r ≡ countOf runs sensors ⌝ }
+{
+    let mut n: usize = 0;
+    for i in 0..16 {
+        let s = sensors[i];
+        n += one_if(s.runs());
+    }
+    n
+}
+
+// The sixteen conditions, FALSE at and above the count.
+pub fn conditions(sensors: [Sensor; 16], count: usize) -> [bool; 16]
+    ensures { λ r. ⌜ r ≡ conditionsBelow count sensors ⌝ }
+{
+    let mut out = [false; 16];
+    for i in 0..16 {
+        if count <= i {
+            return out;
+        }
+        let s = sensors[i];
+        out[i] = s.condition;
+    }
+    out
+}
+
+fn one_if(b: bool) -> usize
+    ensures { λ r. ⌜ r ≡ oneIf b ⌝ }
+{
+    if b { 1 } else { 0 }
+}
