@@ -38,12 +38,15 @@ fn push(stack: u64, condition: bool) -> u64
     stack * 2
 }
 
+// The stack after an operator that runs short.
+const SHORT: u64 = 0;
+
 // AND of the last two values, in their place.
 fn and_two(stack: u64) -> u64
     ensures { λ r. ⌜ Does (onTwo _&&_) stack r ⌝ }
 {
     if stack < 4 {
-        return 0;
+        return SHORT;
     }
     stack / 4 * 2 + (stack % 2 + stack / 2 % 2) / 2
 }
@@ -53,7 +56,7 @@ fn or_two(stack: u64) -> u64
     ensures { λ r. ⌜ Does (onTwo _||_) stack r ⌝ }
 {
     if stack < 4 {
-        return 0;
+        return SHORT;
     }
     stack / 4 * 2 + (stack % 2 + stack / 2 % 2 + 1) / 2
 }
@@ -63,7 +66,7 @@ fn not_one(stack: u64) -> u64
     ensures { λ r. ⌜ Does (onOne not) stack r ⌝ }
 {
     if stack < 2 {
-        return 0;
+        return SHORT;
     }
     stack / 2 * 2 + (1 - stack % 2)
 }

@@ -13,16 +13,16 @@ not-one-requires : tie.Need-not-one-requires
 not-one-requires c κs = search needs
 
 returns : tie.Need-returns
-returns c = search (code-and, c .and-two .ensures, c .before .match .keys1)
+returns c = search (code-and, c .and-two .ensures)
 
 returns-2 : tie.Need-returns-2
-returns-2 c = search (code-or, c .or-two .ensures, c .before .match .keys2)
+returns-2 c = search (code-or, c .or-two .ensures)
 
 returns-3 : tie.Need-returns-3
-returns-3 c = search (code-not, c .not-one .ensures, c .before .match .keys3)
+returns-3 c = search (code-not, c .not-one .ensures)
 
 returns-4 : tie.Need-returns-4
-returns-4 c = search (code-other, c .match .rest .1, c .match .rest .0 .1, c .match .rest .0 .0 .1)
+returns-4 c = search (code-other, c .match .rest)
 
 pub operate-spec : {M : Type 1} → statement M
 operate-spec =

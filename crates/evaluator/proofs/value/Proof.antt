@@ -1,6 +1,5 @@
 use borrow.Author.Needs.{needs}
 use Rattle.evaluator.proofs.Runs.{Ran, start, room, again, done, done-all}
-use Rattle.base.proofs.Lists.{unmapped}
 use Prim.Native.Nat.{_-_}
 use Rattle.evaluator.proofs.value.Statement.{statement}
 use Rattle.evaluator.proofs.value.Tie as tie
@@ -12,7 +11,7 @@ abbrev μ-loop : tie.MeasureT-loop
 μ-loop count conditions elements stack₀ i₀ stack i = 32 - i
 
 loop-holds : tie.Need-loop-holds Inv-loop μ-loop
-loop-holds c = search (start, unmapped, needs)
+loop-holds c = search (start, needs)
 
 returns : tie.Need-returns Inv-loop μ-loop
 returns c = search done
