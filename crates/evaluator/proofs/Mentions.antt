@@ -1,0 +1,45 @@
+-- The value depends only on the conditions of the rows that the elements refer to.
+use Prim.Native.Nat.{ℕ}
+use mathlib.Core.Path.{_≡_, refl, sym, ap}
+use mathlib.Core.Bool.{Bool, true, false, _||_}
+use mathlib.Core.List.{List, [], _∷_}
+use mathlib.Core.Option.{Option, none, some}
+use borrow.Author.Tests.{eq-eqb}
+use Rattle.base.specs.Lists.{any}
+use Rattle.base.proofs.Cases.{or-yes}
+use Rattle.expression.specs.declared.Part.{Part}
+use Rattle.expression.specs.declared.Part.the-variants.{Reference, Operator}
+use Rattle.expression.specs.declared.Element.{Element}
+use Rattle.evaluator.specs.Value.{conditionAt, stepOf, onStack, evaluate, resultOf, orFalse, valueOf, refersTo, mentions}
+
+or-second : (a b : Bool) → b ≡ true → (a || b) ≡ true
+or-second true b e = refl
+or-second false b e = e
+
+module _ (cs ds : List Bool) where
+  step-agree : (p : Part) (stack : Option (List Bool)) → ((row : ℕ) → refersTo row p ≡ true → conditionAt cs row ≡ conditionAt ds row)
+      → onStack (stepOf cs p) stack ≡ onStack (stepOf ds p) stack
+  step-agree p none h = refl
+  step-agree (Reference row) (some s) h = rw (h row (eq-eqb row row refl))
+  step-agree (Operator code) (some s) h = refl
+
+  agree : (es : List Element) (stack : Option (List Bool)) → ((row : ℕ) → mentions row es ≡ true → conditionAt cs row ≡ conditionAt ds row)
+      → evaluate cs es stack ≡ evaluate ds es stack
+  unfolding evaluate mentions any
+  agree [] stack h = refl
+  agree (e ∷ es) stack h =
+      rw (step-agree (e .part) stack (λ row q. h row (sym (or-yes (refersTo row (e .part)) (mentions row es) q))))
+      (agree es (onStack (stepOf ds (e .part)) stack) (λ row q. h row (or-second (refersTo row (e .part)) (mentions row es) q)))
+
+  pub value-agree : (es : List Element) → ((row : ℕ) → mentions row es ≡ true → conditionAt cs row ≡ conditionAt ds row)
+      → resultOf cs es ≡ resultOf ds es
+  value-agree es h = agree es (some []) h
+
+  pub value-same : (es : List Element) → ((row : ℕ) → mentions row es ≡ true → conditionAt cs row ≡ conditionAt ds row)
+      → valueOf cs es ≡ valueOf ds es
+  unfolding valueOf
+  value-same es h = ap orFalse (value-agree es h)
+
+pub value-empty : (cs : List Bool) → valueOf cs [] ≡ false
+unfolding valueOf evaluate
+value-empty cs = refl

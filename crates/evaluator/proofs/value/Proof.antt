@@ -1,0 +1,54 @@
+use borrow.Author.Needs.{needs}
+use Rattle.evaluator.proofs.Runs.{Ran, start, room, again, done, done-all}
+use Prim.Native.Nat.{_-_}
+use Rattle.evaluator.proofs.value.Statement.{statement}
+use Rattle.evaluator.proofs.value.Tie as tie
+
+abbrev Inv-loop : tie.InvT-loop
+Inv-loop count conditions elements stack₀ i₀ stack i = Ran elements conditions count i stack
+
+abbrev μ-loop : tie.MeasureT-loop
+μ-loop count conditions elements stack₀ i₀ stack i = 32 - i
+
+loop-holds : tie.Need-loop-holds Inv-loop μ-loop
+loop-holds c = search (start, needs)
+
+returns : tie.Need-returns Inv-loop μ-loop
+returns c = search done
+
+mul-e : tie.Need-mul-e Inv-loop μ-loop
+mul-e c = search needs
+
+array-copy-out-e : tie.Need-array-copy-out-e Inv-loop μ-loop
+array-copy-out-e c = search needs
+
+step-requires : tie.Need-step-requires Inv-loop μ-loop
+step-requires c κs = search room
+
+add-i : tie.Need-add-i Inv-loop μ-loop
+add-i c = search needs
+
+loop-less : tie.Need-loop-less Inv-loop μ-loop
+loop-less c = search needs
+
+loop-again : tie.Need-loop-again Inv-loop μ-loop
+loop-again c = search (again, c .step .ensures, needs)
+
+returns-2 : tie.Need-returns-2 Inv-loop μ-loop
+returns-2 c = search done-all
+
+pub value-spec : {M : Type 1} → statement M
+value-spec =
+    tie.close
+    (tie.spec
+    Inv-loop
+    μ-loop
+    loop-holds
+    returns
+    mul-e
+    array-copy-out-e
+    step-requires
+    add-i
+    loop-less
+    loop-again
+    returns-2)

@@ -1,0 +1,118 @@
+// The value of an expression (document 01, 'Value of an expression'; 002, 3.2.4).
+//
+// The stack is the bits of a number: the last value lowest, and a 1 above the first. It is 0 once the list is malformed.
+ghost use mathlib.Core.Path.{_≡_};
+ghost use mathlib.Core.Bool.{_&&_, _||_, not};
+ghost use Prim.Native.Nat.{_<_};
+ghost use lib.ListN.{take};
+ghost use Rattle.evaluator.specs.Value.{conditionAt, onTwo, onOne, operatorOf, stepOf, valueOf};
+ghost use mathlib.Core.List.{_∷_};
+ghost use mathlib.Core.Option.{some};
+ghost use Rattle.evaluator.specs.Stack.{Does};
+ghost use Rattle.expression.specs.Elements.{elementsIn};
+use expression::Element;
+use expression::Expression;
+use expression::Part;
+
+// The condition of a row, FALSE where the row is absent.
+fn condition(conditions: [bool; 16], row: u32) -> bool
+    ensures { λ r. ⌜ r ≡ conditionAt conditions row ⌝ }
+{
+    if row < 16 {
+        let at = row as usize;
+        return conditions[at];
+    }
+    false
+}
+
+fn push(stack: u64, condition: bool) -> u64
+    requires { ⌜ stack < 4294967296 ⌝ }
+    ensures { λ r. ⌜ Does (λ s. some (condition ∷ s)) stack r ⌝ }
+{
+    if stack == 0 {
+        return 0;
+    }
+    if condition {
+        return stack * 2 + 1;
+    }
+    stack * 2
+}
+
+// The stack after an operator that runs short.
+const SHORT: u64 = 0;
+
+// AND of the last two values, in their place.
+fn and_two(stack: u64) -> u64
+    ensures { λ r. ⌜ Does (onTwo _&&_) stack r ⌝ }
+{
+    if stack < 4 {
+        return SHORT;
+    }
+    stack / 4 * 2 + (stack % 2 + stack / 2 % 2) / 2
+}
+
+// OR of the last two values, in their place.
+fn or_two(stack: u64) -> u64
+    ensures { λ r. ⌜ Does (onTwo _||_) stack r ⌝ }
+{
+    if stack < 4 {
+        return SHORT;
+    }
+    stack / 4 * 2 + (stack % 2 + stack / 2 % 2 + 1) / 2
+}
+
+// NOT of the last value, in its place.
+fn not_one(stack: u64) -> u64
+    ensures { λ r. ⌜ Does (onOne not) stack r ⌝ }
+{
+    if stack < 2 {
+        return SHORT;
+    }
+    stack / 2 * 2 + (1 - stack % 2)
+}
+
+fn operate(stack: u64, code: u8) -> u64
+    ensures { λ r. ⌜ Does (operatorOf code) stack r ⌝ }
+{
+    match code {
+        0 => and_two(stack),
+        1 => or_two(stack),
+        2 => not_one(stack),
+        _ => 0,
+    }
+}
+
+// One element.
+fn step(stack: u64, part: Part, conditions: [bool; 16]) -> u64
+    requires { ⌜ stack < 4294967296 ⌝ }
+    ensures { λ r. ⌜ Does (stepOf conditions part) stack r ⌝ }
+{
+    match part {
+        Part::Reference(row) => push(stack, condition(conditions, row)),
+        Part::Operator(code) => operate(stack, code),
+    }
+}
+
+// The value of the first `count` elements under the sixteen conditions.
+pub fn value(elements: [Element; 32], count: usize, conditions: [bool; 16]) -> bool
+    ensures { λ r. ⌜ r ≡ valueOf conditions (take count elements) ⌝ }
+{
+    let mut stack: u64 = 1;
+    for i in 0..32 {
+        if count <= i {
+            return stack == 3;
+        }
+        let e = elements[i];
+        let part = e.part;
+        stack = step(stack, part, conditions);
+    }
+    stack == 3
+}
+
+// The value of an expression under the sixteen conditions.
+pub fn value_of(expression: Expression, conditions: [bool; 16]) -> bool
+    ensures { λ r. ⌜ r ≡ valueOf conditions (elementsIn expression) ⌝ }
+{
+    let elements = expression.elements;
+    value(elements, expression.count, conditions)
+}
