@@ -141,13 +141,13 @@ module _ (bytes : List ℕ) (cells : List Element) (count at : ℕ) (r : Reading
             r .held,
             room,
             set-at (r .es) blank (replicate (32 - (count + 1)) blank) (element p) count (r .counted),
-            append-assoc (r .es) (element p ∷ []) (replicate (32 - (count + 1)) blank)
+            append-assoc (r .es) (element p ∷ []) (replicate (32 - (count + 1)) blank),
           );
           counted = rw (length-append, r .counted);
           most = omega arith;
           reads =
-            r .reads
-            ∙ rw (room, goes-on (32 - (count + 1)) (drop at bytes) open-yet p (part-says partIn bytes at head (Is p) q b), after-one, drop-drop, w);
+              r .reads
+              ∙ rw (room, goes-on (32 - (count + 1)) (drop at bytes) open-yet p (part-says partIn bytes at head (Is p) q b), after-one, drop-drop, w);
         }
 
 -- what `read` tests first

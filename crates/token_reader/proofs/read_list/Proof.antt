@@ -1,3 +1,4 @@
+use native.Mathlib.Omega.{arith}
 use borrow.Author.Needs.{needs}
 use Prim.Native.Nat.{_-_}
 use Rattle.token_reader.proofs.Listing.{Reading, refusal-tells, reading-begin, reading-again, reading-cut, reading-done, reading-long, reading-other, reading-broken, width-most}
@@ -68,7 +69,7 @@ width-requires : tie.Need-width-requires Inv-loop μ-loop
 width-requires c κs = search needs
 
 add-at : tie.Need-add-at Inv-loop μ-loop
-add-at c = search (width-most, needs)
+add-at c = omega (arith, c .width .ensures, width-most (c .before .before .part .given .0 .0))
 
 loop-less : tie.Need-loop-less Inv-loop μ-loop
 loop-less c = search needs
