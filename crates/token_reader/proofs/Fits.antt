@@ -39,13 +39,17 @@ module _ (bytes : List ℕ) (p : Part) where
       (λ t e. let f : p ≡ Reference row = cc in rw f (omega (arith, k 7, k 8, k 9, k 10)))
       (λ t e. not-broken p e)
 
+  code-fits : (code : ℕ) → cond (leb code 2) (Is (Operator code)) Broken ≡ Is p → PartFits p
+  code-fits code h =
+      by-arm (leb code 2) (Is (Operator code)) Broken (Is p) h
+      (λ t e. let f : p ≡ Operator code = cc in rw f (leb-true code 2 t))
+      (λ t e. not-broken p e)
+
   operator-fits : operatorIn bytes ≡ Is p → PartFits p
   operator-fits h =
       let code = getD bytes 6 0 in
       by-arm (eqb (getD bytes 7 0) 0xF3) (cond (leb code 2) (Is (Operator code)) Broken) Broken (Is p) h
-      (λ t e. by-arm (leb code 2) (Is (Operator code)) Broken (Is p) e
-      (λ u f. let g : p ≡ Operator code = cc in rw g (leb-true code 2 u))
-      (λ u f. not-broken p f))
+      (λ t e. code-fits code e)
       (λ t e. not-broken p e)
 
   part-fits : Bytes bytes → partIn bytes ≡ Is p → PartFits p
@@ -55,6 +59,7 @@ module _ (bytes : List ℕ) (p : Part) where
       (λ t e. reference-fits k e)
       (λ t e. by-arm (startsWith operatorPrefix bytes) (operatorIn bytes) Broken (Is p) e (λ u f. operator-fits f) (λ u f. not-broken p f))
 
+-- at most so many elements, all of which fit
 abbrev Fits : ℕ → List Element → Type 0
 Fits room es = (length es ≤ room) × AllFit es
 
@@ -75,7 +80,8 @@ then-fits : (room : ℕ) (bytes : List ℕ) (head : Head) (es : List Element) �
     → ((rest : List ℕ) (fs : List Element) → Bytes rest → readElements room rest ≡ elements fs → Fits room fs)
     → partIn bytes ≡ head → andThen bytes head (λ rest. readElements room rest) ≡ elements es → Fits (suc room) es
 then-fits room bytes (Is p) es k all q h =
-    before-fits room p (readElements room (drop (widthOf p) bytes)) es (part-fits bytes p k q) (λ fs e. all (drop (widthOf p) bytes) fs (bytes-drop bytes (widthOf p) k) e) h
+    let rest = drop (widthOf p) bytes in
+    before-fits room p (readElements room rest) es (part-fits bytes p k q) (λ fs e. all rest fs (bytes-drop bytes (widthOf p) k) e) h
 then-fits room bytes Broken es k all q h = not-refused 3 es h
 
 elements-fit : (room : ℕ) (bytes : List ℕ) (es : List Element) → Bytes bytes → readElements room bytes ≡ elements es → Fits room es
@@ -89,11 +95,16 @@ elements-fit (suc room) bytes es k h =
     (λ t e. none-fits (suc room) es e)
     (λ t e. then-fits room bytes (partIn bytes) es k (elements-fit room) refl e)
 
+pub list-fits : (bytes : List ℕ) (es : List Element) → Bytes bytes → readList bytes ≡ elements es → (length es ≤ 32) × AllFit es
+unfolding readList
+list-fits bytes es k h =
+    by-arm (eqb (getD bytes 0 0) 0xF0) (readElements 32 (drop 1 bytes)) (refusal 3) (elements es) h
+    (λ t e. elements-fit 32 (drop 1 bytes) es (bytes-drop bytes 1 k) e)
+    (λ t e. not-refused 3 es e)
+
 pub read-fits : (bytes : List ℕ) (es : List Element) → Bytes bytes → readTokens bytes ≡ elements es → (length es ≤ 32) × AllFit es
-unfolding readTokens readList
+unfolding readTokens
 read-fits bytes es k h =
     by-arm (ltb 1024 (length bytes)) (refusal 2) (readList bytes) (elements es) h
     (λ t e. not-refused 2 es e)
-    (λ t e. by-arm (eqb (getD bytes 0 0) 0xF0) (readElements 32 (drop 1 bytes)) (refusal 3) (elements es) e
-    (λ u f. elements-fit 32 (drop 1 bytes) es (bytes-drop bytes 1 k) f)
-    (λ u f. not-refused 3 es f))
+    (λ t e. list-fits bytes es k e)

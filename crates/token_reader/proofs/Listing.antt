@@ -5,7 +5,6 @@ use native.Mathlib.Nat.{add-zero}
 use native.Mathlib.Omega.{arith}
 use mathlib.Core.Bool.{Bool, true, false}
 use mathlib.Core.List.{List, [], _∷_, _++_, append-assoc, append-nil}
-use lib.Dec.{eqb, ltb}
 use lib.ListN.{length, getD, take, drop, set, replicate, drop-of-length-le, length-append, length-drop, List·getD-eq-default}
 use lib.Seq.{drop-drop, getD-drop, set-at, take-all}
 use borrow.Author.Tests.{eq-eqb, ne-eqb, lt-ltb, le-ltb}
@@ -78,8 +77,7 @@ module _ (bytes : List ℕ) (f : isEnd bytes ≡ false) where
   unfolding readElements
   no-other h = rw (f, ne-eqb (getD bytes 0 0) 0xF2 h)
 
--- the loop
-
+-- The loop: es are the elements so far, which the first cells hold, and the bytes read to es and then to what the rest reads to.
 pub record Reading (bytes : List ℕ) (cells : List Element) (count at : ℕ) : Type 0 where
   pub es : List Element
   pub held : cells ≡ es ++ replicate (32 - count) blank
@@ -109,7 +107,8 @@ module _ (bytes : List ℕ) (cells : List Element) (count at : ℕ) (r : Reading
   module _ (end : Bool) (e : end ≡ isEnd (partFrom bytes at)) where
     pub reading-done : end ≡ true → Tells (readList bytes) (record { answer = Done; expression = record { elements = cells; count = count } })
     reading-done h =
-        let all : readList bytes ≡ elements (r .es) = r .reads ∙ rw (ends (32 - count) (drop at bytes) (part-says isEnd bytes at end true e h), append-nil) in
+        let ended = ends (32 - count) (drop at bytes) (part-says isEnd bytes at end true e h) in
+        let all : readList bytes ≡ elements (r .es) = r .reads ∙ rw (ended, append-nil) in
         record { answer = rw all; expression = rw (all, r .counted, r .held) }
 
     module _ (h : end ≡ false) where
@@ -131,26 +130,27 @@ module _ (bytes : List ℕ) (cells : List Element) (count at : ℕ) (r : Reading
 
         pub reading-broken : head ≡ Broken → readList bytes ≡ refusal 3
         reading-broken b =
-            rest-refused (suc (32 - (count + 1))) 3 room (breaks (32 - (count + 1)) (drop at bytes) open-yet (part-says partIn bytes at head Broken q b))
+            let broken = breaks (32 - (count + 1)) (drop at bytes) open-yet (part-says partIn bytes at head Broken q b) in
+            rest-refused (suc (32 - (count + 1))) 3 room broken
 
         pub reading-again : (p : Part) (width : ℕ) → head ≡ Is p → width ≡ widthOf p
             → Reading bytes (set cells count (element p)) (count + 1) (at + width)
-        reading-again p width b w = record {
-          es = r .es ++ element p ∷ [];
-          held = rw (
-            r .held,
-            room,
-            set-at (r .es) blank (replicate (32 - (count + 1)) blank) (element p) count (r .counted),
-            append-assoc (r .es) (element p ∷ []) (replicate (32 - (count + 1)) blank),
-          );
-          counted = rw (length-append, r .counted);
-          most = omega arith;
-          reads =
-              r .reads
-              ∙ rw (room, goes-on (32 - (count + 1)) (drop at bytes) open-yet p (part-says partIn bytes at head (Is p) q b), after-one, drop-drop, w);
-        }
+        reading-again p width b w =
+            let next = goes-on (32 - (count + 1)) (drop at bytes) open-yet p (part-says partIn bytes at head (Is p) q b) in
+            record {
+              es = r .es ++ element p ∷ [];
+              held = rw (
+                r .held,
+                room,
+                set-at (r .es) blank (replicate (32 - (count + 1)) blank) (element p) count (r .counted),
+                append-assoc (r .es) (element p ∷ []) (replicate (32 - (count + 1)) blank),
+              );
+              counted = rw (length-append, r .counted);
+              most = omega arith;
+              reads = r .reads ∙ rw (room, next, after-one, drop-drop, w);
+            }
 
--- what `read` tests first
+-- what `read` tests before the list: the length, and the first byte
 
 pub too-many : (bytes : List ℕ) → 1024 < length bytes → readTokens bytes ≡ refusal 2
 unfolding readTokens
@@ -165,11 +165,12 @@ module _ (bytes : List ℕ) (h : length bytes ≤ 1024) where
   unfolding readList
   no-start n = few ∙ rw (ne-eqb (getD bytes 0 0) 0xF0 n)
 
-  pub no-bytes : length bytes ≡ 0 → readTokens bytes ≡ refusal 3
-  no-bytes e = no-start (λ b. let z : getD bytes 0 0 ≡ 0 = List·getD-eq-default bytes 0 (omega arith) in omega arith)
-
   pub list-tells : (t : Tokens) → Tells (readList bytes) t → Tells (readTokens bytes) t
   list-tells t k = rw few k
+
+pub no-bytes : (bytes : List ℕ) → length bytes ≡ 0 → readTokens bytes ≡ refusal 3
+no-bytes bytes e =
+    no-start bytes (omega arith) (λ b. let z : getD bytes 0 0 ≡ 0 = List·getD-eq-default bytes 0 (omega arith) in omega arith)
 
 pub width-most : (p : Part) → widthOf p ≤ 12
 width-most (Reference row) = omega arith

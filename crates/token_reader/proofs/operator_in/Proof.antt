@@ -1,3 +1,5 @@
+use native.Mathlib.Nat.{le-trans}
+use lib.Dec.{lit≤}
 use Rattle.token_reader.proofs.Prefix.{no-mark}
 use Rattle.base.proofs.Cases.{cases}
 use borrow.Author.Needs.{needs}
@@ -17,7 +19,7 @@ shared-slice-read-code : tie.Need-shared-slice-read-code
 shared-slice-read-code c = search needs
 
 returns-3 : tie.Need-returns-3
-returns-3 c = search cases
+returns-3 c = search (cases, le-trans, lit≤)
 
 returns-4 : tie.Need-returns-4
 returns-4 c = search cases

@@ -1,3 +1,5 @@
+use native.Mathlib.Nat.{le-trans}
+use lib.Dec.{lit≤}
 use Rattle.token_reader.proofs.Listing.{refusal-tells, too-many, no-bytes, no-start, list-tells}
 use borrow.Author.Needs.{needs}
 use Rattle.token_reader.proofs.read.Statement.{statement}
@@ -7,7 +9,7 @@ refuse-requires : tie.Need-refuse-requires
 refuse-requires c κs = search needs
 
 returns : tie.Need-returns
-returns c = search (refusal-tells, too-many)
+returns c = search (refusal-tells, too-many, le-trans, lit≤)
 
 refuse-requires-2 : tie.Need-refuse-requires-2
 refuse-requires-2 c κs = search needs

@@ -1,3 +1,5 @@
+use native.Mathlib.Nat.{le-trans}
+use lib.Dec.{lit≤}
 use native.Mathlib.Omega.{arith}
 use borrow.Author.Needs.{needs}
 use Prim.Native.Nat.{_-_}
@@ -42,13 +44,13 @@ refuse-requires-2 : tie.Need-refuse-requires-2 Inv-loop μ-loop
 refuse-requires-2 c κs = search needs
 
 returns-3 : tie.Need-returns-3 Inv-loop μ-loop
-returns-3 c = search (refusal-tells, reading-long)
+returns-3 c = search (refusal-tells, reading-long, le-trans, lit≤)
 
 refuse-requires-3 : tie.Need-refuse-requires-3 Inv-loop μ-loop
 refuse-requires-3 c κs = search needs
 
 returns-4 : tie.Need-returns-4 Inv-loop μ-loop
-returns-4 c = search (refusal-tells, reading-other)
+returns-4 c = search (refusal-tells, reading-other, le-trans, lit≤)
 
 element-in-requires : tie.Need-element-in-requires Inv-loop μ-loop
 element-in-requires c κs = search needs
