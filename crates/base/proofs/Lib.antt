@@ -2,3 +2,4 @@ pub mod Cases
 pub mod Lists
 pub mod Loops
 pub mod Jumps
+pub mod Columns

@@ -66,3 +66,30 @@ pub every-at : {A : Type 0} (f : A → Bool) (l : List A) (k : ℕ) (d : A) → 
 every-at f [] k d t h = absurd (omega arith)
 every-at f (x ∷ l) zero d t h = first (f x) (every f l) t
 every-at f (x ∷ l) (suc k) d t h = every-at f l k d (rest (f x) (every f l) t) (omega arith)
+
+-- f of the first i elements of l, in place of the first i of another list
+module _ {A B : Type 0} (f : A → B) where
+  abbrev pub fillTo : ℕ → List A → List B → List B
+  fillTo zero l o = o
+  fillTo (suc i) [] o = o
+  fillTo (suc i) (x ∷ l) [] = []
+  fillTo (suc i) (x ∷ l) (y ∷ o) = f x ∷ fillTo i l o
+
+  fill-more : (i : ℕ) (l : List A) (o : List B) (d : A) → i < length l → i < length o → set (fillTo i l o) i (f (getD l i d)) ≡ fillTo (suc i) l o
+  fill-more i [] o d h k = absurd (omega arith)
+  fill-more i (x ∷ l) [] d h k = absurd (omega arith)
+  fill-more zero (x ∷ l) (y ∷ o) d h k = refl
+  fill-more (suc i) (x ∷ l) (y ∷ o) d h k = ap {B = List B} (λ r. f x ∷ r) (fill-more i l o d (omega arith) (omega arith))
+
+  pub fillTo-next : (i : ℕ) (l : List A) (o m : List B) (v : B) (d : A) → m ≡ fillTo i l o → v ≡ f (getD l i d) → i < length l → i < length o
+      → set m i v ≡ fillTo (i + 1) l o
+  fillTo-next i l o m v d e q h k = rw (q, e, add-one) (fill-more i l o d h k)
+
+  pub fillTo-all : (i : ℕ) (l : List A) (o : List B) → length l ≤ i → length o ≡ length l → fillTo i l o ≡ map f l
+  fillTo-all zero [] [] h k = refl
+  fillTo-all zero [] (y ∷ o) h k = absurd (omega arith)
+  fillTo-all zero (x ∷ l) o h k = absurd (omega arith)
+  fillTo-all (suc i) [] [] h k = refl
+  fillTo-all (suc i) [] (y ∷ o) h k = absurd (omega arith)
+  fillTo-all (suc i) (x ∷ l) [] h k = absurd (omega arith)
+  fillTo-all (suc i) (x ∷ l) (y ∷ o) h k = ap {B = List B} (λ r. f x ∷ r) (fillTo-all i l o (omega arith) (omega arith))

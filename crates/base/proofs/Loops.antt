@@ -8,7 +8,7 @@ use mathlib.Core.List.{List, map, foldl}
 use lib.ListN.{length, getD, set, drop}
 use lib.Seq.{drop-cons, drop-length}
 use Rattle.base.specs.Lists.{oneIf, any, count}
-use Rattle.base.proofs.Lists.{mapTo, mapTo-next, mapTo-all, oneIf-le}
+use Rattle.base.proofs.Lists.{mapTo, mapTo-next, mapTo-all, oneIf-le, fillTo, fillTo-next, fillTo-all}
 
 -- f at each element of an array, in place
 module _ {A : Type 0} (f : A → A) where
@@ -107,3 +107,26 @@ module _ {A : Type 0} (p : A → Bool) where
       let e : i ≡ length l = omega (arith, t .long, t .low) in
       let z : m + 0 ≡ count p l = rw (e, drop-length) at (t .same) in
       omega arith
+
+-- f of each element of an array, into another
+module _ {A B : Type 0} (f : A → B) where
+  pub record Filled (n : ℕ) (l : List A) (o m : List B) (i : ℕ) : Type 0 where
+    pub low : i ≤ n
+    pub long : length l ≡ n
+    pub wide : length o ≡ n
+    pub same : m ≡ fillTo f i l o
+
+  pub fill-begin : (n : ℕ) (l : List A) (o : List B) → length l ≡ n → length o ≡ n → Filled n l o o 0
+  fill-begin n l o e w = record { low = omega arith; long = e; wide = w; same = refl }
+
+  pub fill-again : (n : ℕ) (l : List A) (o m : List B) (i : ℕ) (v : B) (d : A) → Filled n l o m i → i < n → v ≡ f (getD l i d)
+      → Filled n l o (set m i v) (i + 1)
+  fill-again n l o m i v d t h q = record {
+    low = omega arith;
+    long = t .long;
+    wide = t .wide;
+    same = fillTo-next f i l o m v d (t .same) q (omega (arith, t .long)) (omega (arith, t .wide));
+  }
+
+  pub fill-done : (n : ℕ) (l : List A) (o m : List B) (i : ℕ) → Filled n l o m i → n ≤ i → m ≡ map f l
+  fill-done n l o m i t h = t .same ∙ fillTo-all f i l o (omega (arith, t .long)) (t .wide ∙ sym (t .long))

@@ -1,3 +1,4 @@
 pub mod Lists
 pub mod Ticks
 pub mod Columns
+pub mod Rows

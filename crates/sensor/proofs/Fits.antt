@@ -1,9 +1,9 @@
 -- What a Set that fits says of each of its columns.
-use mathlib.Core.Path.{_≡_, refl, sym, _∙_}
-use Prim.Native.Nat.{ℕ, _≤_}
+use mathlib.Core.Path.{_≡_, refl}
+use Prim.Native.Nat.{ℕ}
 use native.Mathlib.Omega.{arith}
 use mathlib.Core.Bool.{Bool, true, false, _&&_, false≢true}
-use lib.Dec.{leb, ltb}
+use lib.Dec.{ltb}
 use borrow.Author.Tests.{leb-true, le-leb}
 use Rattle.base.specs.Columns.{named, within}
 use Rattle.sensor.specs.declared.columns.SensorColumns.{SensorColumns}
@@ -61,11 +61,6 @@ fitting c e =
       «off_timeout» = t .6;
     }
 
--- a named value of a range is at most its greatest
-pub named-fits : (most v : ℕ) (t n : Bool) → within most n v ≡ true → t ≡ n → t ≡ true → v ≤ most
-named-fits most v t true h p e = leb-true v most h
-named-fits most v t false h p e = absurd (false≢true (sym p ∙ e))
-
 -- a value in the range of fractions is in that of numbers
 wider : (v : ℕ) (n : Bool) → within greatestFraction n v ≡ true → within greatestNumber n v ≡ true
 wider v true e = le-leb v greatestNumber (omega (arith, leb-true v greatestFraction e))
@@ -76,12 +71,3 @@ on-fraction c e = wider (c .«on_fraction») (named 4 (c .mask)) (fitting c e .�
 
 pub off-fraction : (c : SensorColumns) → columnsFit c ≡ true → within greatestNumber (named 32 (c .mask)) (c .«off_fraction») ≡ true
 off-fraction c e = wider (c .«off_fraction») (named 32 (c .mask)) (fitting c e .«off_fraction»)
-
--- the range test, where the mask names the column and where it does not
-pub within-named : (most v : ℕ) (t n : Bool) → t ≡ n → t ≡ true → leb v most ≡ within most n v
-within-named most v t true p e = refl
-within-named most v t false p e = absurd (false≢true (sym p ∙ e))
-
-pub within-free : (most v : ℕ) (t n : Bool) → t ≡ n → t ≡ false → true ≡ within most n v
-within-free most v t true p e = absurd (false≢true (sym e ∙ p))
-within-free most v t false p e = refl

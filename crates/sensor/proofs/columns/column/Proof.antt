@@ -1,7 +1,7 @@
 use Prim.Native.Nat.{_≤_}
 use Rattle.sensor.specs.Columns.{greatestNumber}
 use native.Mathlib.Omega.{arith}
-use Rattle.sensor.proofs.Fits.{named-fits}
+use Rattle.base.proofs.Columns.{named-fits}
 use Rattle.base.proofs.Cases.{calls}
 use borrow.Author.Needs.{needs}
 use Rattle.sensor.proofs.columns.column.Statement.{statement}

@@ -1,4 +1,4 @@
-use Rattle.sensor.proofs.Fits.{within-named, within-free}
+use Rattle.base.proofs.Columns.{within-named, within-free}
 use borrow.Author.Needs.{needs}
 use Rattle.sensor.proofs.columns.in_range.Statement.{statement}
 use Rattle.sensor.proofs.columns.in_range.Tie as tie

@@ -1,0 +1,23 @@
+use Rattle.band.proofs.Settling.{settled, not-open}
+use borrow.Author.Needs.{needs}
+use Rattle.band.proofs.Row.settle.Statement.{statement}
+use Rattle.band.proofs.Row.settle.Tie as tie
+
+open-requires : tie.Need-open-requires
+open-requires c κs = search needs
+
+value-requires : tie.Need-value-requires
+value-requires c κs = search needs
+
+lock-under-requires : tie.Need-lock-under-requires
+lock-under-requires c κs = search needs
+
+returns : tie.Need-returns
+returns c = search settled
+
+returns-2 : tie.Need-returns-2
+returns-2 c = search not-open
+
+pub settle-spec : {M : Type 1} → statement M
+settle-spec =
+    tie.close (tie.spec open-requires value-requires lock-under-requires returns returns-2)

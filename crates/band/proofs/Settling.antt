@@ -1,0 +1,81 @@
+-- Laws of a row's sides, settling and resets.
+use mathlib.Core.Path.{_≡_, refl, sym, ap, ap₂, _∙_}
+use Prim.Native.Nat.{ℕ, zero, suc}
+use mathlib.Core.Bool.{Bool, true, false, not, cond, _&&_, _||_, false≢true}
+use mathlib.Core.List.{List}
+use Rattle.base.proofs.Cases.{cond-true}
+use Rattle.band.specs.declared.Side.{Side}
+use Rattle.band.specs.declared.Side.the-variants.{Read, Write}
+use Rattle.band.specs.declared.Row.{Row}
+use Rattle.band.specs.Rows.{freshRow, closedOn, openOn, valueIn, withLocked, lockUnder, settleRow, inSet, resetRow}
+
+-- ---- what the code's arms come to
+
+pub settled : (cs : List Bool) (row r : Row) (v : Bool) → v ≡ valueIn cs row → r ≡ lockUnder v row → r ≡ settleRow cs row
+unfolding settleRow
+settled cs row r v e q = q ∙ ap (λ (x : Bool). lockUnder x row) e
+
+or-none : (a b : Bool) → (a || b) ≡ false → (a ≡ false) × (b ≡ false)
+or-none true b e = absurd (false≢true (sym e))
+or-none false b e = (refl, e)
+
+-- a side that is not open stays as it is
+shut : (locked enabled v : Bool) → (enabled && not locked) ≡ false → locked ≡ (locked || (enabled && v))
+shut true enabled v e = refl
+shut false true v e = absurd (false≢true (sym e))
+shut false false v e = refl
+
+-- a row with no open side stays as it is
+pub not-open : (cs : List Bool) (row : Row) (t : Bool) → t ≡ (openOn Read row || openOn Write row) → t ≡ false → row ≡ settleRow cs row
+unfolding settleRow
+not-open cs row t p e =
+    let h = or-none (openOn Read row) (openOn Write row) (sym p ∙ e) in
+    ap₂ (λ (a b : Bool). withLocked a b row)
+    (shut (row .«read_locked») (row .«read_lock_enabled») (valueIn cs row) (h .0))
+    (shut (row .«write_locked») (row .«write_lock_enabled») (valueIn cs row) (h .1))
+
+pub reset-locks : (type : ℕ) (row r : Row) (t : Bool) → t ≡ inSet (row .«lock_on_reset») type → t ≡ true → r ≡ lockUnder true row
+    → r ≡ resetRow type row
+unfolding resetRow
+reset-locks type row r t p e q = cond-true (inSet (row .«lock_on_reset») type) _ _ _ (sym p ∙ e) q
+
+pub no-type : (set type : ℕ) → (type ≡ 0 → ⊥) → (type ≡ 1 → ⊥) → (type ≡ 2 → ⊥) → false ≡ inSet set type
+no-type set zero a b c = absurd (a refl)
+no-type set (suc zero) a b c = absurd (b refl)
+no-type set (suc (suc zero)) a b c = absurd (c refl)
+no-type set (suc (suc (suc type))) a b c = refl
+
+pub closed-read : (row : Row) (side : Side) (t : Bool) → side ≡ Read → t ≡ (row .«read_lock_enabled» && row .«read_locked») → t ≡ closedOn side row
+closed-read row side t e q = q ∙ ap (λ (s : Side). closedOn s row) (sym e)
+
+pub closed-write : (row : Row) (side : Side) (t : Bool) → side ≡ Write → t ≡ (row .«write_lock_enabled» && row .«write_locked») → t ≡ closedOn side row
+closed-write row side t e q = q ∙ ap (λ (s : Side). closedOn s row) (sym e)
+
+-- ---- laws for the layers above
+
+lock-again : (locked enabled v : Bool) → ((locked || (enabled && v)) || (enabled && v)) ≡ (locked || (enabled && v))
+lock-again true enabled v = refl
+lock-again false true true = refl
+lock-again false true false = refl
+lock-again false false v = refl
+
+-- settling twice is settling once
+pub settle-again : (cs : List Bool) (row : Row) → settleRow cs (settleRow cs row) ≡ settleRow cs row
+unfolding settleRow
+settle-again cs row =
+    ap₂ (λ (a b : Bool). withLocked a b row)
+    (lock-again (row .«read_locked») (row .«read_lock_enabled») (valueIn cs row))
+    (lock-again (row .«write_locked») (row .«write_lock_enabled») (valueIn cs row))
+
+-- a fresh row settles and is reset to itself
+pub fresh-settles : (cs : List Bool) → settleRow cs freshRow ≡ freshRow
+unfolding settleRow freshRow
+fresh-settles cs = refl
+
+pub fresh-reset : (type : ℕ) → resetRow type freshRow ≡ freshRow
+unfolding resetRow freshRow
+fresh-reset type = go (inSet 1 type)
+  where
+    go : (b : Bool) → cond b (lockUnder true freshRow) freshRow ≡ freshRow
+    go true = refl
+    go false = refl

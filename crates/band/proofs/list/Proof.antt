@@ -1,0 +1,16 @@
+use Rattle.base.proofs.Cases.{calls}
+use borrow.Author.Needs.{needs}
+use Rattle.band.proofs.list.Statement.{statement}
+use Rattle.band.proofs.list.Tie as tie
+
+has-requires : tie.Need-has-requires
+has-requires c κs = search needs
+
+returns : tie.Need-returns
+returns c = search calls
+
+returns-2 : tie.Need-returns-2
+returns-2 c = search calls
+
+pub list-spec : {M : Type 1} → statement M
+list-spec = tie.close (tie.spec has-requires returns returns-2)

@@ -1,0 +1,75 @@
+-- Document 01, 'Bands': a row, its two sides, settling and resets.
+use Prim.Native.Nat.{ℕ, zero, suc}
+use mathlib.Core.Bool.{Bool, true, false, not, cond, _&&_, _||_}
+use mathlib.Core.List.{List, []}
+use Rattle.base.specs.Columns.{named}
+use Rattle.expression.specs.Elements.{elementsIn, expressionOf}
+use Rattle.evaluator.specs.Value.{valueOf}
+use Rattle.band.specs.declared.Side.{Side}
+use Rattle.band.specs.declared.Side.the-variants.{Read, Write}
+use Rattle.band.specs.declared.Row.{Row}
+
+-- "Fresh: all columns 0, expressions empty, LockOnReset 1"
+unfoldable pub freshRow : Row
+freshRow = record {
+  «read_lock_enabled» = false;
+  «write_lock_enabled» = false;
+  «read_locked» = false;
+  «write_locked» = false;
+  «lock_on_reset» = 1;
+  expression = expressionOf [];
+}
+
+-- "A side, read or write, is enabled when its LockEnabled column is 1 and locked when its Locked column is 1."
+abbrev pub enabledOn : Side → Row → Bool
+enabledOn Read row = row .«read_lock_enabled»
+enabledOn Write row = row .«write_lock_enabled»
+
+abbrev pub lockedOn : Side → Row → Bool
+lockedOn Read row = row .«read_locked»
+lockedOn Write row = row .«write_locked»
+
+-- "has that direction's side enabled and locked"
+abbrev pub closedOn : Side → Row → Bool
+closedOn side row = enabledOn side row && lockedOn side row
+
+-- enabled and not locked yet
+abbrev pub openOn : Side → Row → Bool
+openOn side row = enabledOn side row && not (lockedOn side row)
+
+-- the value of the row's expression under the sensors' conditions
+abbrev pub valueIn : List Bool → Row → Bool
+valueIn conditions row = valueOf conditions (elementsIn (row .expression))
+
+-- the same row with other Locked columns
+abbrev pub withLocked : Bool → Bool → Row → Row
+withLocked read write row = record {
+  «read_lock_enabled» = row .«read_lock_enabled»;
+  «write_lock_enabled» = row .«write_lock_enabled»;
+  «read_locked» = read;
+  «write_locked» = write;
+  «lock_on_reset» = row .«lock_on_reset»;
+  expression = row .expression;
+}
+
+-- "a side that is enabled, under a TRUE expression, becomes locked"; v is that value. Slip three: under TRUE, not under FALSE.
+abbrev pub lockedUnder : Bool → Side → Row → Bool
+lockedUnder v side row = lockedOn side row || (enabledOn side row && v)
+
+abbrev pub lockUnder : Bool → Row → Row
+lockUnder v row = withLocked (lockedUnder v Read row) (lockedUnder v Write row) row
+
+-- settling, document 01's word for what happens to a row after every event and tick
+unfoldable pub settleRow : List Bool → Row → Row
+settleRow conditions row = lockUnder (valueIn conditions row) row
+
+-- "LockOnReset (a set as bits: 1 power cycle, 2 hardware, 4 hot plug ..)"; "Reset types: 0 power cycle, 1 hardware, 2 hot plug."
+abbrev pub inSet : ℕ → ℕ → Bool
+inSet set zero = named 1 set
+inSet set (suc zero) = named 2 set
+inSet set (suc (suc zero)) = named 4 set
+inSet set (suc (suc (suc type))) = false
+
+-- "A band whose set has the type gets each enabled side locked."
+unfoldable pub resetRow : ℕ → Row → Row
+resetRow type row = cond (inSet (row .«lock_on_reset») type) (lockUnder true row) row

@@ -1,0 +1,42 @@
+// The locking rows of a drive (document 01, 'Bands'), by value: what settling and a reset make of all sixteen, and which are closed.
+ghost use mathlib.Core.Path.{_≡_};
+ghost use mathlib.Core.List.{map};
+ghost use Rattle.band.specs.Rows.{settleRow, resetRow, closedOn};
+use band::Row;
+use band::Side;
+
+// Each row once it has settled under the sixteen conditions.
+pub fn settle_all(rows: [Row; 16], conditions: [bool; 16]) -> [Row; 16]
+    ensures { λ r. ⌜ r ≡ map (settleRow conditions) rows ⌝ }
+{
+    let mut out = rows;
+    for i in 0..16 {
+        let row = out[i];
+        out[i] = row.settle(conditions);
+    }
+    out
+}
+
+// Each row after a reset of a type.
+pub fn reset_all(rows: [Row; 16], kind: u64) -> [Row; 16]
+    ensures { λ r. ⌜ r ≡ map (resetRow kind) rows ⌝ }
+{
+    let mut out = rows;
+    for i in 0..16 {
+        let row = out[i];
+        out[i] = row.reset(kind);
+    }
+    out
+}
+
+// Which rows have a side enabled and locked.
+pub fn closed_sides(rows: [Row; 16], side: Side) -> [bool; 16]
+    ensures { λ r. ⌜ r ≡ map (closedOn side) rows ⌝ }
+{
+    let mut out = [false; 16];
+    for i in 0..16 {
+        let row = rows[i];
+        out[i] = row.closed(side);
+    }
+    out
+}

@@ -1,0 +1,21 @@
+-- Laws of a Set's columns: a range test, where the mask names the column and where it does not.
+use mathlib.Core.Path.{_≡_, refl, sym, _∙_}
+use Prim.Native.Nat.{ℕ, _≤_}
+use mathlib.Core.Bool.{Bool, true, false, false≢true}
+use lib.Dec.{leb}
+use borrow.Author.Tests.{leb-true}
+use Rattle.base.specs.Columns.{within}
+
+-- a named value of a range is at most its greatest
+pub named-fits : (most v : ℕ) (t n : Bool) → within most n v ≡ true → t ≡ n → t ≡ true → v ≤ most
+named-fits most v t true h p e = leb-true v most h
+named-fits most v t false h p e = absurd (false≢true (sym p ∙ e))
+
+-- the range test, where the mask names the column and where it does not
+pub within-named : (most v : ℕ) (t n : Bool) → t ≡ n → t ≡ true → leb v most ≡ within most n v
+within-named most v t true p e = refl
+within-named most v t false p e = absurd (false≢true (sym p ∙ e))
+
+pub within-free : (most v : ℕ) (t n : Bool) → t ≡ n → t ≡ false → true ≡ within most n v
+within-free most v t true p e = absurd (false≢true (sym e ∙ p))
+within-free most v t false p e = refl
