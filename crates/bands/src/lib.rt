@@ -12,7 +12,8 @@ pub fn settle_all(rows: [Row; 16], conditions: [bool; 16]) -> [Row; 16]
     let mut out = rows;
     for i in 0..16 {
         let row = out[i];
-        out[i] = row.settle(conditions);
+        let settled = row.settle(conditions);
+        out[i] = settled;
     }
     out
 }
@@ -24,7 +25,8 @@ pub fn reset_all(rows: [Row; 16], kind: u64) -> [Row; 16]
     let mut out = rows;
     for i in 0..16 {
         let row = out[i];
-        out[i] = row.reset(kind);
+        let after = row.reset(kind);
+        out[i] = after;
     }
     out
 }

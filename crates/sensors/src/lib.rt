@@ -5,6 +5,7 @@ ghost use Rattle.base.specs.Lists.{any, oneIf};
 ghost use Rattle.base.specs.Lists.{count as countOf};
 ghost use Rattle.sensor.specs.Single.{tickOf, loweredBy, powerCycleOf, runs, endsNext};
 ghost use Rattle.sensors.specs.Sixteen.{quietTicks, conditionsBelow};
+use phases::Cause;
 use sensor::Sensor;
 
 // Each sensor after a tick.
@@ -14,7 +15,8 @@ pub fn tick_all(sensors: [Sensor; 16]) -> [Sensor; 16]
     let mut out = sensors;
     for i in 0..16 {
         let s = out[i];
-        out[i] = s.tick();
+        let ticked = s.tick();
+        out[i] = ticked;
     }
     out
 }
@@ -38,7 +40,8 @@ pub fn power_cycle_all(sensors: [Sensor; 16]) -> [Sensor; 16]
     let mut out = sensors;
     for i in 0..16 {
         let s = out[i];
-        out[i] = s.power_cycle();
+        let cycled = s.step(Cause::PowerCycle);
+        out[i] = cycled;
     }
     out
 }
