@@ -1,0 +1,76 @@
+-- Document 01, 'Expressions as tokens': "The writer takes an element list, whose operator codes are 0 to 2 (else 2), at most 32 elements
+-- (else 4). It fills exactly the bytes needed from the start of the output."
+use Prim.Native.Nat.{ℕ, _+_, _-_, _/_, _%_}
+use mathlib.Core.Path.{_≡_}
+use mathlib.Core.Bool.{Bool, true, cond, _&&_}
+use mathlib.Core.List.{List, [], _∷_, _++_, map}
+use lib.Dec.{eqb, leb, ltb}
+use lib.ListN.{length, take, drop}
+use Rattle.answer.specs.Numbers.{numberOf}
+use Rattle.expression.specs.declared.Part.{Part}
+use Rattle.expression.specs.declared.Part.the-variants.{Reference, Operator}
+use Rattle.expression.specs.declared.Element.{Element}
+use Rattle.expression.specs.Elements.{element}
+use Rattle.token_reader.specs.Format.{referencePrefix, operatorPrefix, widthOf}
+use Rattle.token_writer.specs.declared.Written.{Written}
+
+-- An element as a number: a row below 2^32, and 2^32 plus the code of an operator.
+abbrev pub partOf : ℕ → Part
+partOf n = cond (ltb n 4294967296) (Reference n) (Operator (n - 4294967296))
+
+abbrev pub codeOf : Part → ℕ
+codeOf (Reference row) = row
+codeOf (Operator code) = 4294967296 + code
+
+abbrev pub elementsOf : List ℕ → List Element
+elementsOf codes = map (λ n. element (partOf n)) codes
+
+abbrev pub codesOf : List Element → List ℕ
+codesOf es = map (λ e. codeOf (e .part)) es
+
+-- "operator codes are 0 to 2", anywhere in the list
+unfoldable pub codesFit : List ℕ → Bool
+codesFit [] = true
+codesFit (n ∷ codes) = leb n 4294967298 && codesFit codes
+
+-- the bytes of an element
+abbrev pub partBytes : Part → List ℕ
+partBytes (Reference row) = referencePrefix ++ row / 16777216 ∷ row / 65536 % 256 ∷ row / 256 % 256 ∷ row % 256 ∷ 0xF3 ∷ []
+partBytes (Operator code) = operatorPrefix ++ code ∷ 0xF3 ∷ []
+
+-- the elements, "then F1"
+unfoldable pub bodyOf : List Element → List ℕ
+bodyOf [] = 0xF1 ∷ []
+bodyOf (e ∷ es) = partBytes (e .part) ++ bodyOf es
+
+-- "F0, then the elements, then F1"
+abbrev pub bytesOf : List Element → List ℕ
+bytesOf es = 0xF0 ∷ bodyOf es
+
+-- the bytes needed: 2, and 12 for each reference and 8 for each operator
+unfoldable pub neededFor : List Element → ℕ
+neededFor [] = 2
+neededFor (e ∷ es) = widthOf (e .part) + neededFor es
+
+-- 2, then 4, then 11 ("the token writer's output is shorter than needed")
+unfoldable pub writeAnswer : List ℕ → ℕ → ℕ
+writeAnswer codes room =
+    cond (codesFit codes) (cond (ltb 32 (length codes)) 4 (cond (ltb room (length (bytesOf (elementsOf codes)))) 11 0)) 2
+
+-- the output with other bytes from a place on
+abbrev pub spliced : List ℕ → ℕ → List ℕ → List ℕ
+spliced out at bytes = take at out ++ bytes ++ drop (at + length bytes) out
+
+-- by the answer's number: the bytes from the start of the output and the rest as it was, or all as it was
+abbrev pub outputAfter : ℕ → List ℕ → List ℕ → List ℕ
+outputAfter answer bytes out = cond (eqb answer 0) (spliced out 0 bytes) out
+
+-- and the number of bytes written
+abbrev pub writtenAfter : ℕ → List ℕ → ℕ
+writtenAfter answer bytes = cond (eqb answer 0) (length bytes) 0
+
+-- what the writer does with a list of numbers and an output
+pub record Writes (codes out : List ℕ) (r : Written) (after : List ℕ) : Type 0 where
+  pub answer : numberOf (r .answer) ≡ writeAnswer codes (length out)
+  pub count : r .count ≡ writtenAfter (writeAnswer codes (length out)) (bytesOf (elementsOf codes))
+  pub output : after ≡ outputAfter (writeAnswer codes (length out)) (bytesOf (elementsOf codes)) out
