@@ -1,0 +1,9 @@
+pub mod Ranges
+pub mod Covering
+pub mod Scans
+pub mod Sweeps
+pub mod Sharing
+pub mod Bands
+pub mod Arms
+pub mod Refusals
+pub mod Invariant

@@ -1,0 +1,56 @@
+use mathlib.Core.Path.{refl}
+use Rattle.base.proofs.Cases.{calls}
+use Rattle.geometry.specs.Events.{placeAnswer}
+use Rattle.geometry.proofs.Arms.{no-room, not-counted, is-row, refused, place-refused, place-done}
+use borrow.Author.Needs.{needs}
+use Rattle.geometry.proofs.place.Statement.{statement}
+use Rattle.geometry.proofs.place.Tie as tie
+
+returns : tie.Need-returns
+unfolding placeAnswer
+returns c = refused _ _ _ _ _ _ _ (search (no-room, calls)) refl
+
+returns-2 : tie.Need-returns-2
+unfolding placeAnswer
+returns-2 c = refused _ _ _ _ _ _ _ (search (not-counted, calls)) refl
+
+returns-3 : tie.Need-returns-3
+unfolding placeAnswer
+returns-3 c = refused _ _ _ _ _ _ _ (search (is-row, calls)) refl
+
+past-end-requires : tie.Need-past-end-requires
+past-end-requires c κs = search needs
+
+returns-4 : tie.Need-returns-4
+unfolding placeAnswer
+returns-4 c = refused _ _ _ _ _ _ _ (search (is-row, calls)) refl
+
+mul-next : tie.Need-mul-next
+mul-next c = search needs
+
+array-set-from-next : tie.Need-array-set-from-next
+array-set-from-next c = search needs
+
+overlap-requires : tie.Need-overlap-requires
+overlap-requires c κs = search needs
+
+returns-5 : tie.Need-returns-5
+returns-5 c = search (place-refused, needs)
+
+returns-6 : tie.Need-returns-6
+returns-6 c = search (place-done, needs)
+
+pub place-spec : {M : Type 1} → statement M
+place-spec =
+    tie.close
+    (tie.spec
+    returns
+    returns-2
+    returns-3
+    past-end-requires
+    returns-4
+    mul-next
+    array-set-from-next
+    overlap-requires
+    returns-5
+    returns-6)

@@ -1,0 +1,296 @@
+// Where the bands lie, and which blocks a transfer touches (document 01, 'Geometry and transfers'). Nothing here goes from block to block.
+ghost use mathlib.Core.Path.{_≡_};
+ghost use mathlib.Core.Bool.{_&&_, _||_};
+ghost use Prim.Native.Nat.{_+_, _<_, min};
+ghost use lib.ListN.{take, drop};
+ghost use Rattle.answer.specs.Numbers.{numberOf};
+ghost use Rattle.geometry.specs.Blocks.{covers, meetsOf, meetsAny, overlapping, bandSpans, touchesOf};
+ghost use Rattle.geometry.specs.Events.{noSpan, pastEnd, transferAnswer, Places};
+ghost use Rattle.geometry.specs.Runs.{Alike, OneBand, Barred};
+use answer::Answer;
+
+// The blocks of a band: `length` of them from `start` on.
+pub struct Span {
+    pub start: u64,
+    pub length: u64,
+}
+
+// A geometry's answer, and the spans after it.
+pub struct Placed {
+    pub answer: Answer,
+    pub spans: [Span; 16],
+}
+
+// Blocks that lie in one band, from a block on.
+struct Run {
+    band: usize,
+    count: u64,
+}
+
+fn least(a: u64, b: u64) -> u64
+    ensures { λ r. ⌜ r ≡ min a b ⌝ }
+{
+    if a < b { a } else { b }
+}
+
+fn or(a: bool, b: bool) -> bool
+    ensures { λ r. ⌜ r ≡ (a || b) ⌝ }
+{
+    a || b
+}
+
+impl Span {
+    // No blocks.
+    pub fn none() -> Span
+        ensures { λ r. ⌜ r ≡ noSpan ⌝ }
+    {
+        Span {
+            start: 0,
+            length: 0,
+        }
+    }
+
+    fn covers(self, block: u64) -> bool
+        ensures { λ r. ⌜ r ≡ Rattle.geometry.specs.Blocks.covers self block ⌝ }
+    {
+        if block < self.start {
+            return false;
+        }
+        block - self.start < self.length
+    }
+
+    // Of the next n blocks those that the span treats like the first: all covered, or none.
+    fn alike(self, block: u64, n: u64) -> u64
+        requires { ⌜ 0 < n ⌝ }
+        ensures { λ r. ⌜ Alike self block n r ⌝ }
+    {
+        if block < self.start {
+            return least(n, self.start - block);
+        }
+        let past = block - self.start;
+        if past < self.length {
+            return least(n, self.length - past);
+        }
+        n
+    }
+
+    // Whether two spans share a block.
+    fn meets(self, other: Span) -> bool
+        ensures { λ r. ⌜ r ≡ meetsOf self other ⌝ }
+    {
+        if self.start < other.start {
+            if other.length == 0 {
+                return false;
+            }
+            return other.start - self.start < self.length;
+        }
+        if self.length == 0 {
+            return false;
+        }
+        self.start - other.start < other.length
+    }
+}
+
+// The band of a block, and how many of the next blocks lie in the same one.
+fn run_of(spans: [Span; 16], bands: usize, block: u64, limit: u64) -> Run
+    requires { ⌜ 0 < limit ⌝ }
+    ensures { λ r. ⌜ OneBand bands spans block limit r ⌝ }
+{
+    let mut n = limit;
+    let mut i = 1;
+    while i < 16 {
+        if bands <= i {
+            return Run { band: 0, count: n };
+        }
+        let s = spans[i];
+        n = s.alike(block, n);
+        if s.covers(block) {
+            return Run { band: i, count: n };
+        }
+        i += 1;
+    }
+    Run { band: 0, count: n }
+}
+
+// Whether some block of a range lies in a closed band: from run to run.
+fn sweep(spans: [Span; 16], bands: usize, closed: [bool; 16], start: u64, count: u64) -> bool
+    requires { ⌜ start + count < 18446744073709551616 ⌝ }
+    ensures { λ r. ⌜ r ≡ touchesOf bands spans closed start count ⌝ }
+{
+    let mut block = start;
+    let mut left = count;
+    while 0 < left {
+        let run = run_of(spans, bands, block, left);
+        let band = run.band;
+        if closed[band] {
+            return true;
+        }
+        block += run.count;
+        left -= run.count;
+    }
+    false
+}
+
+fn bars(closed: bool, range: Span, s: Span) -> bool
+    ensures { λ r. ⌜ r ≡ (closed && meetsOf range s) ⌝ }
+{
+    if closed {
+        return range.meets(s);
+    }
+    false
+}
+
+// Whether a closed band other than 0 has a block of the range.
+fn barred(spans: [Span; 16], bands: usize, closed: [bool; 16], range: Span) -> bool
+    ensures { λ r. ⌜ Barred bands spans closed range r ⌝ }
+{
+    let mut i = 1;
+    while i < 16 {
+        if bands <= i {
+            return false;
+        }
+        let s = spans[i];
+        if bars(closed[i], range, s) {
+            return true;
+        }
+        i += 1;
+    }
+    false
+}
+
+// The same as `sweep`, and most often with no sweep: the closed bands lie elsewhere.
+fn touches(spans: [Span; 16], bands: usize, closed: [bool; 16], start: u64, count: u64) -> bool
+    requires { ⌜ start + count < 18446744073709551616 ⌝ }
+    ensures { λ r. ⌜ r ≡ touchesOf bands spans closed start count ⌝ }
+{
+    let near = barred(
+        spans,
+        bands,
+        closed,
+        Span {
+            start,
+            length: count,
+        },
+    );
+    if or(near, closed[0]) {
+        return sweep(spans, bands, closed, start, count);
+    }
+    false
+}
+
+// Whether a range of blocks goes past the end of the drive.
+fn past_end(capacity: u64, start: u64, count: u64) -> bool
+    ensures { λ r. ⌜ r ≡ pastEnd capacity start count ⌝ }
+{
+    if capacity < start {
+        return true;
+    }
+    capacity - start < count
+}
+
+// A transfer of `count` blocks: 6 past the end, 9 where one of them lies in a closed band, else done.
+pub fn transfer(
+    capacity: u64,
+    bands: usize,
+    spans: [Span; 16],
+    closed: [bool; 16],
+    start: u64,
+    count: u64,
+) -> Answer
+    ensures { λ r. ⌜ numberOf r ≡ transferAnswer capacity bands spans closed start count ⌝ }
+{
+    if past_end(capacity, start, count) {
+        return Answer::PastEnd;
+    }
+    if touches(spans, bands, closed, start, count) {
+        return Answer::Locked;
+    }
+    Answer::Done
+}
+
+// Whether a span shares a block with a band from the i-th on.
+fn meets_from(spans: [Span; 16], bands: usize, s: Span, first: usize) -> bool
+    ensures { λ r. ⌜ r ≡ meetsAny s (drop first (take bands spans)) ⌝ }
+{
+    let mut i = first;
+    while i < 16 {
+        if bands <= i {
+            return false;
+        }
+        let t = spans[i];
+        if s.meets(t) {
+            return true;
+        }
+        i += 1;
+    }
+    false
+}
+
+// Whether two bands share a block.
+fn overlap(spans: [Span; 16], bands: usize) -> bool
+    ensures { λ r. ⌜ r ≡ overlapping (bandSpans bands spans) ⌝ }
+{
+    let mut i = 1;
+    while i < 16 {
+        if bands <= i {
+            return false;
+        }
+        let s = spans[i];
+        if meets_from(spans, bands, s, i + 1) {
+            return true;
+        }
+        i += 1;
+    }
+    false
+}
+
+// A geometry: the spans with the band's own in its new place, or the refusal and the spans as they were.
+pub fn place(
+    capacity: u64,
+    bands: usize,
+    spans: [Span; 16],
+    band: u64,
+    start: u64,
+    length: u64,
+) -> Placed
+    ensures { λ r. ⌜ Places capacity bands spans band start length r ⌝ }
+{
+    if 16 <= band {
+        return Placed {
+            answer: Answer::NoRow,
+            spans,
+        };
+    }
+    let at = band as usize;
+    if bands <= at {
+        return Placed {
+            answer: Answer::NoRow,
+            spans,
+        };
+    }
+    if at == 0 {
+        return Placed {
+            answer: Answer::Global,
+            spans,
+        };
+    }
+    if past_end(capacity, start, length) {
+        return Placed {
+            answer: Answer::PastEnd,
+            spans,
+        };
+    }
+    let old = spans;
+    let mut next = old;
+    next[at] = Span { start, length };
+    if overlap(next, bands) {
+        return Placed {
+            answer: Answer::Overlap,
+            spans: old,
+        };
+    }
+    Placed {
+        answer: Answer::Done,
+        spans: next,
+    }
+}
