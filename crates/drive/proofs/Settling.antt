@@ -1,5 +1,5 @@
 -- Laws of a drive's settling.
-use mathlib.Core.Path.{_≡_, refl, sym, ap, _∙_}
+use mathlib.Core.Path.{_≡_, refl, ap, _∙_}
 use mathlib.Core.Bool.{Bool}
 use mathlib.Core.List.{List, [], _∷_, map}
 use Rattle.sensor.specs.declared.single.Sensor.{Sensor}

@@ -1,0 +1,34 @@
+use borrow.Author.Needs.{needs}
+use Rattle.elapse.proofs.Turning.{Running, run-begin, run-again, run-done}
+use Rattle.elapse.specs.Jumps.{turnsLeft}
+use Rattle.elapse.proofs.elapse.Statement.{statement}
+use Rattle.elapse.proofs.elapse.Tie as tie
+
+abbrev Inv-loop : tie.InvT-loop
+Inv-loop n next₀ left₀ stops₀ next left stops = Running n next₀ next left stops
+
+abbrev μ-loop : tie.MeasureT-loop
+μ-loop n next₀ left₀ stops₀ next left stops = turnsLeft left next
+
+loop-holds : tie.Need-loop-holds Inv-loop μ-loop
+loop-holds c = search run-begin
+
+turn-once-requires : tie.Need-turn-once-requires Inv-loop μ-loop
+turn-once-requires c κs = search needs
+
+add-stops : tie.Need-add-stops Inv-loop μ-loop
+add-stops c = search needs
+
+loop-less : tie.Need-loop-less Inv-loop μ-loop
+loop-less c = search needs
+
+loop-again : tie.Need-loop-again Inv-loop μ-loop
+loop-again c = search run-again
+
+returns : tie.Need-returns Inv-loop μ-loop
+returns c = search (run-done, needs)
+
+pub elapse-spec : {M : Type 1} → statement M
+elapse-spec =
+    tie.close
+    (tie.spec Inv-loop μ-loop loop-holds turn-once-requires add-stops loop-less loop-again returns)
