@@ -3,3 +3,4 @@ pub mod Lists
 pub mod Loops
 pub mod Jumps
 pub mod Columns
+pub mod Rows

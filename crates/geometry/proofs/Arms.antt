@@ -2,39 +2,19 @@
 use mathlib.Core.Path.{_≡_, refl, sym, ap, _∙_}
 use Prim.Native.Nat.{ℕ, _+_, _-_, _≤_, _<_}
 use native.Mathlib.Omega.{arith}
-use mathlib.Core.Bool.{Bool, true, false, cond, _&&_}
+use mathlib.Core.Bool.{Bool, true, false, cond}
 use mathlib.Core.List.{List}
-use borrow.Author.Tests.{lt-ltb, le-ltb, ltb-true, ltb-false, ne-eqb}
+use borrow.Author.Tests.{le-ltb, ltb-false, ne-eqb}
 use lib.Dec.{eqb, ltb}
-use Rattle.base.specs.Rows.{isRow}
-use Rattle.base.proofs.Cases.{cond-true, cond-false, and-yes, and-no, or-no}
+use Rattle.base.proofs.Rows.{is-row}
+use Rattle.base.proofs.Cases.{cond-true, cond-false, or-no}
 use Rattle.answer.specs.declared.Answer.{Answer}
 use Rattle.answer.specs.declared.Answer.the-variants.{Done, Overlap}
 use Rattle.answer.specs.Numbers.{numberOf}
 use Rattle.geometry.specs.declared.Span.{Span}
 use Rattle.geometry.specs.Blocks.{bandSpans, overlapping}
 use Rattle.geometry.specs.Events.{pastEnd, placed, placeAnswer, placeOf, Places, Allowed}
-use Rattle.geometry.proofs.Ranges.{neither, both}
-
--- rows
-
-and-last : (a b : Bool) → b ≡ false → (a && b) ≡ false
-and-last true b e = e
-and-last false b e = refl
-
-pub not-counted : (bands band : ℕ) → bands ≤ band → isRow bands band ≡ false
-not-counted bands band h = sym (and-no _ _ (le-ltb _ _ h))
-
-pub no-room : (bands band : ℕ) → 16 ≤ band → isRow bands band ≡ false
-no-room bands band h = and-last (ltb band bands) (ltb band 16) (le-ltb _ _ h)
-
-pub is-row : (bands band : ℕ) → band < bands → band < 16 → isRow bands band ≡ true
-is-row bands band h k = sym (and-yes _ _ _ (lt-ltb _ _ h) (sym (lt-ltb _ _ k)))
-
-pub row-is : (bands band : ℕ) → isRow bands band ≡ true → (band < bands) × (band < 16)
-row-is bands band e =
-    let t : (ltb band bands ≡ true) × (ltb band 16 ≡ true) = both _ _ e in
-    (ltb-true _ _ (t .0), ltb-true _ _ (t .1))
+use Rattle.geometry.proofs.Ranges.{neither}
 
 -- the end of the drive
 

@@ -10,7 +10,7 @@ use Rattle.geometry.specs.declared.Span.{Span}
 use Rattle.geometry.specs.Blocks.{covers, bandFrom, bandOf, overlapping, bandSpans, spanOf, closedAt, touchesOf}
 use Rattle.geometry.specs.Runs.{Barred}
 use Rattle.geometry.proofs.Ranges.{any-at, any-none, neither, refuted}
-use Rattle.geometry.proofs.Scans.{getD-any}
+use Rattle.base.proofs.Rows.{getD-any}
 use Rattle.geometry.proofs.Sharing.{no-block, pair-at, at-band, below, of-band}
 
 first-at : (k : ℕ) (l : List Span) (j x : ℕ) → covers (spanOf l j) x ≡ true → ((i : ℕ) → i < j → covers (spanOf l i) x ≡ false)

@@ -14,7 +14,8 @@ use Rattle.geometry.specs.Blocks.{bandSpans, overlapping}
 use Rattle.geometry.specs.Events.{pastEnd, transferAnswer, placed, placeAnswer, LockedTransfer, Allowed, OverlapRefused}
 use Rattle.geometry.proofs.Ranges.{any-there, any-at}
 use Rattle.geometry.proofs.Sharing.{shared-there, shared-at}
-use Rattle.geometry.proofs.Arms.{row-is, up-to-end, end-up-to, placing}
+use Rattle.base.proofs.Rows.{row-is}
+use Rattle.geometry.proofs.Arms.{up-to-end, end-up-to, placing}
 
 -- a result that one arm does not give: the test is against that arm, and the result is the other's
 module _ {A : Type 0} (b : Bool) (x y r : A) where

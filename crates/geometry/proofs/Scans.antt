@@ -1,6 +1,7 @@
 -- The loops over the bands: what each knows before its i-th turn, with the laws of its start, a turn and its end.
+use Rattle.base.proofs.Rows.{getD-any}
 use mathlib.Core.Path.{_≡_, refl, sym, ap, ap₂, _∙_}
-use Prim.Native.Nat.{ℕ, zero, suc, _+_, _≤_, _<_, min}
+use Prim.Native.Nat.{ℕ, suc, _+_, _≤_, _<_, min}
 use native.Mathlib.Omega.{arith}
 use native.Mathlib.Numerals.{add-one}
 use mathlib.Core.Bool.{Bool, true, false, cond, _&&_, _||_, false≢true}
@@ -13,12 +14,6 @@ use Rattle.base.proofs.Cases.{cond-true, cond-false, or-yes, or-no, and-no}
 use Rattle.geometry.specs.declared.Span.{Span}
 use Rattle.geometry.specs.Blocks.{covers, meetsOf, bandFrom, bandOf}
 use Rattle.geometry.specs.Runs.{Alike, OneBand, barsAt, Barred}
-
--- an element that there is does not depend on the default
-pub getD-any : {A : Type 0} (l : List A) (i : ℕ) (d e : A) → i < length l → getD l i d ≡ getD l i e
-getD-any [] i d e h = absurd (omega arith)
-getD-any (x ∷ l) zero d e h = refl
-getD-any (x ∷ l) (suc i) d e h = getD-any l i d e (omega arith)
 
 -- the i-th of the first n spans, and what follows it
 tail-at : (l : List Span) (n i : ℕ) (z : Span) → length l ≡ 16 → i < 16 → i < n

@@ -10,7 +10,7 @@ use Rattle.geometry.specs.declared.Run.{Run}
 use Rattle.geometry.specs.Blocks.{anyBlock, closedAt, touchesOf}
 use Rattle.geometry.specs.Runs.{OneBand}
 use Rattle.geometry.proofs.Ranges.{any-at, any-skip}
-use Rattle.geometry.proofs.Scans.{getD-any}
+use Rattle.base.proofs.Rows.{getD-any}
 
 pub record Swept (p : ℕ → Bool) (start count x left : ℕ) : Type 0 where
   pub end : x + left ≡ start + count

@@ -1,3 +1,4 @@
 pub mod Prefix
 pub mod Listing
 pub mod Fits
+pub mod Numbers

@@ -1,7 +1,8 @@
 use mathlib.Core.Path.{refl}
 use Rattle.base.proofs.Cases.{calls}
 use Rattle.geometry.specs.Events.{placeAnswer}
-use Rattle.geometry.proofs.Arms.{no-room, not-counted, is-row, refused, place-refused, place-done}
+use Rattle.base.proofs.Rows.{no-room, not-counted, is-row}
+use Rattle.geometry.proofs.Arms.{refused, place-refused, place-done}
 use borrow.Author.Needs.{needs}
 use Rattle.geometry.proofs.place.Statement.{statement}
 use Rattle.geometry.proofs.place.Tie as tie

@@ -1,0 +1,298 @@
+// The seven events of a drive (document 01): each takes any numbers and any drive, and hands back the answer, the stops and the drive.
+ghost use mathlib.Core.Path.{_≡_};
+ghost use mathlib.Core.Bool.{cond, not, _||_};
+ghost use mathlib.Core.List.{map};
+ghost use Prim.Native.Nat.{_<_, _≤_};
+ghost use lib.Dec.{eqb, ltb};
+ghost use lib.ListN.{length};
+ghost use Rattle.answer.specs.Numbers.{numberOf};
+ghost use Rattle.base.specs.Rows.{isRow};
+ghost use Rattle.sensor.specs.Single.{freshSensor, powerCycleOf};
+ghost use Rattle.band.specs.Rows.{freshRow};
+ghost use Rattle.band.specs.Sets.{columnsFit};
+ghost use Rattle.drive.specs.Events.{Replies, sideOf, eventOf};
+ghost use Rattle.drive.specs.Events.{Event as E};
+ghost use Rattle.elapse.specs.Jumps.{running};
+ghost use Rattle.events.specs.Steps.{Takes, refused, granting, StoresSensor, StoresRow, TokensFor};
+use answer::Answer;
+use band::BandColumns;
+use band::Row;
+use band::Side;
+use drive::Drive;
+use drive::Kind;
+use drive::Reply;
+use expression::Expression;
+use sensor::Sensor;
+use sensor::SensorAnswer;
+use sensor::SensorColumns;
+use token_reader::Tokens;
+
+// The greatest elapse.
+pub const MOST_TICKS: u64 = 4_294_967_295;
+
+// Granted, document 01's word: the answer is done.
+fn granted(answer: Answer) -> bool
+    ensures { λ r. ⌜ r ≡ eqb (numberOf answer) 0 ⌝ }
+{
+    answer.number() == 0
+}
+
+// Whether there is no such row.
+fn no_row(count: usize, i: u64) -> bool
+    ensures { λ r. ⌜ r ≡ not (isRow count i) ⌝ }
+{
+    if 16 <= i {
+        return true;
+    }
+    let at = i as usize;
+    count <= at
+}
+
+// A refusal: the drive as it was.
+fn refuse(drive: Drive, answer: Answer) -> Reply
+    ensures { λ r. ⌜ r ≡ refused answer drive ⌝ }
+{
+    Reply {
+        answer,
+        stops: 0,
+        drive,
+    }
+}
+
+// An event that is done, from what it did: the bands settle.
+fn grant(drive: Drive) -> Reply
+    ensures { λ r. ⌜ r ≡ granting drive ⌝ }
+{
+    let settled = drive.settle();
+    Reply {
+        answer: Answer::Done,
+        stops: 0,
+        drive: settled,
+    }
+}
+
+// One of the sixteen.
+fn sensor_at(all: [Sensor; 16], at: usize) -> Sensor
+    requires { ⌜ at < 16 ⌝ }
+    ensures { λ r. ⌜ Takes all at freshSensor r ⌝ }
+{
+    all[at]
+}
+
+fn row_at(all: [Row; 16], at: usize) -> Row
+    requires { ⌜ at < 16 ⌝ }
+    ensures { λ r. ⌜ Takes all at freshRow r ⌝ }
+{
+    all[at]
+}
+
+// What a sensor's answer makes of the drive.
+fn store_sensor(drive: Drive, at: usize, r: SensorAnswer) -> Reply
+    requires { ⌜ at < 16 ⌝ }
+    ensures { λ q. ⌜ StoresSensor drive at r q ⌝ }
+{
+    let answer = r.answer;
+    if granted(answer) {
+        let sensor = r.sensor;
+        let mut next = drive;
+        next.sensors[at] = sensor;
+        return grant(next);
+    }
+    refuse(drive, answer)
+}
+
+// 1 reading
+pub fn reading(drive: Drive, sensor: u64, value: u64) -> Reply
+    ensures { λ r. ⌜ Replies drive (E.reading sensor value) r ⌝ }
+{
+    if no_row(drive.sensor_count, sensor) {
+        return refuse(drive, Answer::NoRow);
+    }
+    let at = sensor as usize;
+    let all = drive.sensors;
+    let one = sensor_at(all, at);
+    let r = one.reading(value);
+    store_sensor(drive, at, r)
+}
+
+// 2 elapse
+pub fn elapse(drive: Drive, ticks: u64) -> Reply
+    ensures { λ r. ⌜ Replies drive (E.elapse ticks) r ⌝ }
+    ensures few { λ r. ⌜ r .stops ≤ running drive ⌝ }
+{
+    if MOST_TICKS < ticks {
+        return refuse(drive, Answer::OutOfRange);
+    }
+    let elapsed = elapse::elapse(drive, ticks as u32);
+    let after = elapsed.drive;
+    let settled = after.settle();
+    Reply {
+        answer: Answer::Done,
+        stops: elapsed.stops,
+        drive: settled,
+    }
+}
+
+// The sensors after a reset: a power cycle touches them, the other types do not.
+fn cycled(sensors: [Sensor; 16], kind: u64) -> [Sensor; 16]
+    ensures { λ r. ⌜ r ≡ cond (eqb kind 0) (map powerCycleOf sensors) sensors ⌝ }
+{
+    if kind == 0 {
+        return sensors::power_cycle_all(sensors);
+    }
+    sensors
+}
+
+// 3 reset
+pub fn reset(drive: Drive, kind: u64) -> Reply
+    ensures { λ r. ⌜ Replies drive (E.reset kind) r ⌝ }
+{
+    if 2 < kind {
+        return refuse(drive, Answer::OutOfRange);
+    }
+    let rows = drive.rows;
+    let locked = bands::reset_all(rows, kind);
+    let all = drive.sensors;
+    let after = cycled(all, kind);
+    let next = drive.with_rows(locked);
+    grant(next.with_sensors(after))
+}
+
+// 4 sensor Set
+pub fn set_sensor(drive: Drive, sensor: u64, columns: SensorColumns) -> Reply
+    ensures { λ r. ⌜ Replies drive (E.sensorSet sensor columns) r ⌝ }
+{
+    if no_row(drive.sensor_count, sensor) {
+        return refuse(drive, Answer::NoRow);
+    }
+    let at = sensor as usize;
+    let all = drive.sensors;
+    let one = sensor_at(all, at);
+    let r = one.set(columns);
+    store_sensor(drive, at, r)
+}
+
+// Whether a field of a band Set exceeds its range.
+fn unfit(columns: BandColumns, tokens: &[u8]) -> bool
+    ensures { λ r. ⌜ r ≡ (not (columnsFit columns) || ltb 1024 (length (now (tokens .entry)))) ⌝ }
+{
+    if columns.fit() {
+        return token_reader::MOST_BYTES < tokens.len();
+    }
+    true
+}
+
+// What the bytes of a band Set read to, where the Set names them.
+fn tokens_for(columns: BandColumns, tokens: &[u8]) -> Tokens
+    ensures { λ r. ⌜ TokensFor columns (now (tokens .entry)) r ⌝ }
+{
+    if columns.names_expression() {
+        return token_reader::read(tokens);
+    }
+    let expression = Expression::empty();
+    Tokens {
+        answer: Answer::Done,
+        expression,
+    }
+}
+
+// The row that a band Set forms, stored unless it is held.
+fn store_row(drive: Drive, at: usize, columns: BandColumns, expression: Expression) -> Reply
+    requires { ⌜ at < 16 ⌝ }
+    ensures { λ q. ⌜ StoresRow drive at columns expression q ⌝ }
+{
+    let conditions = drive.conditions();
+    let all = drive.rows;
+    let row = row_at(all, at);
+    let new = row.form(columns, expression);
+    let v = new.value(conditions);
+    if new.held(columns, v) {
+        return refuse(drive, Answer::Held);
+    }
+    let mut next = drive;
+    next.rows[at] = new;
+    grant(next)
+}
+
+// 5 band Set
+pub fn set_band(drive: Drive, band: u64, columns: BandColumns, tokens: &[u8]) -> Reply
+    ensures { λ r. ⌜ Replies drive (E.bandSet band columns (now (tokens .entry))) r ⌝ }
+{
+    if no_row(drive.band_count, band) {
+        return refuse(drive, Answer::NoRow);
+    }
+    if unfit(columns, tokens) {
+        return refuse(drive, Answer::OutOfRange);
+    }
+    let read = tokens_for(columns, tokens);
+    let answer = read.answer;
+    if granted(answer) {
+        let at = band as usize;
+        let expression = read.expression;
+        return store_row(drive, at, columns, expression);
+    }
+    refuse(drive, answer)
+}
+
+// 6 geometry
+pub fn set_geometry(drive: Drive, band: u64, start: u64, length: u64) -> Reply
+    ensures { λ r. ⌜ Replies drive (E.geometry band start length) r ⌝ }
+{
+    let spans = drive.spans;
+    let placed = geometry::place(drive.capacity, drive.band_count, spans, band, start, length);
+    let answer = placed.answer;
+    if granted(answer) {
+        let after = placed.spans;
+        return grant(drive.with_spans(after));
+    }
+    refuse(drive, answer)
+}
+
+// The side that a direction reads or writes.
+fn side(direction: u64) -> Side
+    ensures { λ r. ⌜ r ≡ sideOf direction ⌝ }
+{
+    if direction == 0 {
+        return Side::Read;
+    }
+    Side::Write
+}
+
+// 7 transfer
+pub fn transfer(drive: Drive, direction: u64, start: u64, count: u64) -> Reply
+    ensures { λ r. ⌜ Replies drive (E.transfer direction start count) r ⌝ }
+{
+    if 1 < direction {
+        return refuse(drive, Answer::OutOfRange);
+    }
+    let rows = drive.rows;
+    let closed = bands::closed_sides(rows, side(direction));
+    let spans = drive.spans;
+    let answer = geometry::transfer(
+        drive.capacity,
+        drive.band_count,
+        spans,
+        closed,
+        start,
+        count,
+    );
+    if granted(answer) {
+        return grant(drive);
+    }
+    refuse(drive, answer)
+}
+
+// Any of the seven. Only a band Set looks at the bytes.
+pub fn apply(drive: Drive, kind: Kind, tokens: &[u8]) -> Reply
+    ensures { λ r. ⌜ Replies drive (eventOf kind (now (tokens .entry))) r ⌝ }
+{
+    match kind {
+        Kind::Reading(sensor, value) => reading(drive, sensor, value),
+        Kind::Elapse(ticks) => elapse(drive, ticks),
+        Kind::Reset(kind) => reset(drive, kind),
+        Kind::SensorSet(sensor, columns) => set_sensor(drive, sensor, columns),
+        Kind::BandSet(band, columns) => set_band(drive, band, columns, tokens),
+        Kind::Geometry(band, start, length) => set_geometry(drive, band, start, length),
+        Kind::Transfer(direction, start, count) => transfer(drive, direction, start, count),
+    }
+}
