@@ -4,7 +4,8 @@
 //
 // Then it prints a line for each of some calls of the writer with a list of numbers: the list's length, the output's, the answer, the
 // bytes written, whether the rest was kept, and those bytes.
-ghost use Prim.Native.Nat.{_≤_};
+ghost use mathlib.Core.Path.{_≡_};
+ghost use Prim.Native.Nat.{_<_, _≤_};
 ghost use lib.ListN.{length};
 use answer::Answer;
 use expression::Expression;
@@ -130,6 +131,12 @@ fn begins(out: &[u8], count: usize, bytes: &[u8]) -> bool {
     check::same(&out[..count], bytes)
 }
 
+fn blanks() -> [u8; ROOM]
+    ensures { λ r. ⌜ 400 ≡ length r ⌝ }
+{
+    [BLANK; ROOM]
+}
+
 // Whether the output is blank from place `from` on.
 fn blank(out: &[u8], from: usize) -> bool {
     let mut i = from;
@@ -152,7 +159,7 @@ fn print_blank(out: &[u8], from: usize) {
 
 // Writes the expression into an output with room, and prints the bytes needed and whether they are those that were read.
 fn print_written(expression: Expression, bytes: &[u8]) -> usize {
-    let mut out = [BLANK; 400];
+    let mut out = blanks();
     let written = token_writer::write_expression(expression, &mut out);
     let answer = written.answer;
     print(b";");
@@ -183,7 +190,7 @@ fn print_short(expression: Expression, needed: usize) {
     if ROOM < room {
         return;
     }
-    let mut out = [BLANK; 400];
+    let mut out = blanks();
     let written = write_short(expression, &mut out, room);
     let answer = written.answer;
     print(b";");
@@ -254,21 +261,21 @@ fn print_output(written: Written, out: &[u8]) {
     print(b"\n");
 }
 
-// Writes a list of numbers into the first bytes of an output.
-fn write_list(codes: &[u64], out: &mut [u8], room: usize) -> Written
-    requires { ⌜ room ≤ length (now out) ⌝ }
+// Writes the first numbers of a list into the first bytes of an output.
+fn write_list(codes: &[u64], count: usize, out: &mut [u8], room: usize) -> Written
+    requires { ⌜ (count ≤ length (now codes)) × (room ≤ length (now out)) ⌝ }
 {
-    token_writer::write(codes, &mut out[..room])
+    token_writer::write(&codes[..count], &mut out[..room])
 }
 
-// Writes a list of numbers into an output of so many bytes.
-fn list(codes: &[u64], room: usize)
-    requires { ⌜ room ≤ 400 ⌝ }
+// Writes the first numbers of a list into an output of so many bytes.
+fn list(codes: &[u64], count: usize, room: usize)
+    requires { ⌜ (count ≤ length (now codes)) × (room ≤ 400) ⌝ }
 {
-    let mut out = [BLANK; 400];
-    let written = write_list(codes, &mut out, room);
+    let mut out = blanks();
+    let written = write_list(codes, count, &mut out, room);
     print(b"list");
-    print_next(codes.len() as u64);
+    print_next(count as u64);
     print_next(room as u64);
     print_output(written, &out);
 }
@@ -276,16 +283,16 @@ fn list(codes: &[u64], room: usize)
 // No elements, and document 002's example.
 fn short_lists() {
     let row = [2, 1, AND, 3, OR, 0, AND];
-    list(&row[..0], 2);
-    list(&row[..0], 1);
-    list(&row[..0], 0);
-    list(&row[..0], 3);
-    list(&row, 74);
-    list(&row, 73);
-    list(&row, 75);
-    list(&row, 0);
-    list(&row[..1], 14);
-    list(&row[..1], 13);
+    list(&row, 0, 2);
+    list(&row, 0, 1);
+    list(&row, 0, 0);
+    list(&row, 0, 3);
+    list(&row, 7, 74);
+    list(&row, 7, 73);
+    list(&row, 7, 75);
+    list(&row, 7, 0);
+    list(&row, 1, 14);
+    list(&row, 1, 13);
 }
 
 // One element.
@@ -293,7 +300,7 @@ fn single(code: u64, room: usize)
     requires { ⌜ room ≤ 400 ⌝ }
 {
     let one = [code];
-    list(&one, room);
+    list(&one, 1, room);
 }
 
 fn singles() {
@@ -308,79 +315,36 @@ fn singles() {
     single(305_419_896, 400);
 }
 
-// Forty elements: at even places the place's number as a row, at odd ones the operators in turn.
-const FORTY: [u64; 40] = [
-    0,
-    OR,
-    2,
-    AND,
-    4,
-    NOT,
-    6,
-    OR,
-    8,
-    AND,
-    10,
-    NOT,
-    12,
-    OR,
-    14,
-    AND,
-    16,
-    NOT,
-    18,
-    OR,
-    20,
-    AND,
-    22,
-    NOT,
-    24,
-    OR,
-    26,
-    AND,
-    28,
-    NOT,
-    30,
-    OR,
-    32,
-    AND,
-    34,
-    NOT,
-    36,
-    OR,
-    38,
-    AND,
-];
-
+// The first of forty operators.
 fn long_lists() {
-    let codes = FORTY;
-    list(&codes[..31], 400);
-    list(&codes[..32], 322);
-    list(&codes[..32], 321);
-    list(&codes[..33], 400);
-    list(&codes, 400);
-    list(&codes, 0);
+    let codes = [NOT; 40];
+    list(&codes, 31, 400);
+    list(&codes, 32, 258);
+    list(&codes, 32, 257);
+    list(&codes, 33, 400);
+    list(&codes, 40, 400);
+    list(&codes, 40, 0);
 }
 
-// A number that is no element, at the list's start, past place 32 and at places 32 and 31.
+// The same with another number at a place.
+fn list_with(at: usize, code: u64, count: usize, room: usize)
+    requires { ⌜ (at < 40) × (count ≤ 40) × (room ≤ 400) ⌝ }
+{
+    let mut codes = [NOT; 40];
+    codes[at] = code;
+    list(&codes, count, room);
+}
+
+// A number that is no element, at the list's start, past place 32 and about it.
 fn lists_with_none() {
-    let mut first = FORTY;
-    first[0] = NONE;
-    list(&first, 400);
-    list(&first[..1], 400);
-    let mut last = FORTY;
-    last[39] = NONE;
-    list(&last, 400);
-    list(&last[..39], 400);
-    let mut past = FORTY;
-    past[32] = NONE;
-    list(&past[..33], 400);
-    let mut inside = FORTY;
-    inside[31] = NONE;
-    list(&inside[..32], 400);
-    list(&inside[..31], 400);
-    last[39] = 18_446_744_073_709_551_615;
-    list(&last, 0);
+    list_with(0, NONE, 40, 400);
+    list_with(0, NONE, 1, 400);
+    list_with(39, NONE, 40, 400);
+    list_with(39, NONE, 39, 400);
+    list_with(32, NONE, 33, 400);
+    list_with(31, NONE, 32, 400);
+    list_with(31, NONE, 31, 400);
+    list_with(39, 18_446_744_073_709_551_615, 40, 0);
 }
 
 fn main() {
