@@ -1,5 +1,5 @@
 use borrow.Author.Needs.{needs}
-use Rattle.token_writer.proofs.Filled.{Filled, filled-begin, filled-again, filled-done}
+use Rattle.base.proofs.Loops.{Filled, fill-begin, fill-again, fill-done}
 use Rattle.token_writer.specs.Write.{codeOf}
 use Rattle.expression.specs.declared.Element.{Element}
 use Prim.Native.Nat.{_-_}
@@ -13,7 +13,7 @@ abbrev μ-loop : tie.MeasureT-loop
 μ-loop elements out₀ i₀ out i = 32 - i
 
 loop-holds : tie.Need-loop-holds Inv-loop μ-loop
-loop-holds c = search (filled-begin, needs)
+loop-holds c = search (fill-begin, needs)
 
 mul-e : tie.Need-mul-e Inv-loop μ-loop
 mul-e c = search needs
@@ -37,10 +37,10 @@ loop-less : tie.Need-loop-less Inv-loop μ-loop
 loop-less c = search needs
 
 loop-again : tie.Need-loop-again Inv-loop μ-loop
-loop-again c = search (filled-again, needs)
+loop-again c = search (fill-again, needs)
 
 returns : tie.Need-returns Inv-loop μ-loop
-returns c = search (filled-done, needs)
+returns c = search (fill-done, needs)
 
 pub codes-spec : {M : Type 1} → statement M
 codes-spec =
