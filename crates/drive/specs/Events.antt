@@ -207,3 +207,8 @@ eventOf (K.SensorSet s c) bytes = sensorSet s c
 eventOf (K.BandSet b c) bytes = bandSet b c bytes
 eventOf (K.Geometry b start n) bytes = geometry b start n
 eventOf (K.Transfer w start n) bytes = transfer w start n
+
+-- "each event, whatever its kind and answer, gets the drive that the last one left"
+unfoldable pub runOf : Drive → List Event → Drive
+runOf d [] = d
+runOf d (e ∷ es) = runOf (stepOf d e) es
