@@ -125,11 +125,11 @@ pub fn elapse(drive: Drive, ticks: u64) -> Reply
     }
     let elapsed = elapse::elapse(drive, ticks as u32);
     let after = elapsed.drive;
-    let settled = after.settle();
+    let rested = after.settle();
     Reply {
         answer: Answer::Done,
         stops: elapsed.stops,
-        drive: settled,
+        drive: rested,
     }
 }
 
