@@ -1,7 +1,7 @@
 // Scripts (document 01, 'Script'): the header and the events, read at their places.
 ghost use mathlib.Core.Path.{_≡_};
-ghost use Prim.Native.Nat.{_<_, _≤_};
-ghost use lib.ListN.{length, take, drop};
+ghost use Prim.Native.Nat.{_<_};
+ghost use lib.ListN.{length};
 ghost use Rattle.numbers.specs.Groups.{foundIn};
 ghost use Rattle.script.specs.Fields.{
   columnAt,
