@@ -17,7 +17,7 @@ use Rattle.script.specs.declared.HeaderRead.{HeaderRead}
 use Rattle.script.specs.declared.HeaderRead.the-variants as H
 use Rattle.script.specs.declared.Checked.{Checked}
 use Rattle.script.specs.Fields.{Parsed, event, parsedIn, tokensAt, eventAt}
-use Rattle.script.specs.Whole.{Header, noHeader, fieldHeader, headerIn, headerAt, Events, events, badFrom, before, andThen, eventsIn, eventsFrom, withEvents, withHeader, readScript, reads, badAt, checkedIn, checkEvents, checkFrom, checkScript, checkOf}
+use Rattle.script.specs.Whole.{Header, noHeader, fieldHeader, headerIn, headerAt, Events, events, badFrom, before, andThen, eventsIn, eventsFrom, withEvents, withHeader, readScript, Check, reads, badAt, checkedIn, checkEvents, checkFrom, checkScript, checkOf}
 use Rattle.script.proofs.Progress.{event-past}
 
 -- ---- the header
@@ -32,41 +32,58 @@ pub ruleset headers = (header-bad, header-is)
 
 -- ---- the events
 
-checked-before : (e : Event) (o : Events) → checkEvents (before e o) ≡ checkEvents o
-checked-before e (events es) = refl
-checked-before e (badFrom p) = refl
+-- so many events more
+abbrev plus : ℕ → Check → Check
+plus n (reads m) = reads (n + m)
+plus n (badAt p) = badAt p
 
--- what is still to be checked decides
-pub record Checking (s : List ℕ) (start at : ℕ) : Type 0 where
+plus-none : (c : Check) → c ≡ plus 0 c
+plus-none (reads m) = let e : m ≡ 0 + m = omega arith in ap reads e
+plus-none (badAt p) = refl
+
+-- an event in front
+plus-one : (n : ℕ) (e : Event) (o : Events) → plus n (checkEvents (before e o)) ≡ plus (n + 1) (checkEvents o)
+plus-one n e (events es) = let q : n + suc (length es) ≡ n + 1 + length es = omega arith in ap reads q
+plus-one n e (badFrom p) = refl
+
+-- what is still to be checked decides, with the events counted so far
+pub record Checking (s : List ℕ) (start at count : ℕ) : Type 0 where
   pub left : ℕ
   pub enough : length s - at ≤ left
-  pub same : checkFrom s start ≡ checkEvents (eventsIn left s at)
+  pub few : count ≤ at
+  pub same : checkFrom s start ≡ plus count (checkEvents (eventsIn left s at))
 
-pub check-begin : (s : List ℕ) (start : ℕ) → Checking s start start
+pub check-begin : (s : List ℕ) (start : ℕ) → Checking s start start 0
 unfolding checkFrom eventsFrom
-check-begin s start = record { left = length s - start; enough = omega arith; same = refl }
+check-begin s start = record {
+  left = length s - start;
+  enough = omega arith;
+  few = omega arith;
+  same = plus-none (checkEvents (eventsIn (length s - start) s start));
+}
 
 -- an event at a place within the script
 one-event : (k : ℕ) (s : List ℕ) (at : ℕ) → at < length s → eventsIn (suc k) s at ≡ andThen at (eventAt s at) (λ n. eventsIn k s n)
 unfolding eventsIn
 one-event k s at h = sym (cond-true (ltb at (length s)) _ _ _ (lt-ltb at (length s) h) refl)
 
-module _ (s : List ℕ) (start at : ℕ) (i : Checking s start at) (h : at < length s) where
-  more : checkFrom s start ≡ checkEvents (andThen at (eventAt s at) (λ n. eventsIn (i .left - 1) s n))
+module _ (s : List ℕ) (start at count : ℕ) (i : Checking s start at count) (h : at < length s) where
+  more : checkFrom s start ≡ plus count (checkEvents (andThen at (eventAt s at) (λ n. eventsIn (i .left - 1) s n)))
   more =
       let e : i .left ≡ suc (i .left - 1) = omega (arith, i .enough) in
-      i .same ∙ ap (λ (k : ℕ). checkEvents (eventsIn k s at)) e ∙ ap checkEvents (one-event (i .left - 1) s at h)
+      i .same ∙ ap (λ (k : ℕ). plus count (checkEvents (eventsIn k s at))) e ∙ ap (λ (o : Events). plus count (checkEvents o)) (one-event (i .left - 1) s at h)
 
   pub check-again : (r : EventRead) (kind : Rattle.drive.specs.declared.Kind.Kind) (b c n : ℕ) → parsedIn s r ≡ eventAt s at → r ≡ R.Is kind b c n
-      → Checking s start n
+      → Checking s start n (count + 1)
   check-again r kind b c n e q =
       let w : eventAt s at ≡ event (eventOf kind (tokensAt s b c)) n = sym e ∙ ap (parsedIn s) q in
       let p : at < n = event-past s at (eventOf kind (tokensAt s b c)) n w in
       record {
         left = i .left - 1;
         enough = omega (arith, i .enough);
-        same = more ∙ ap (λ (x : Parsed). checkEvents (andThen at x (λ m. eventsIn (i .left - 1) s m))) w
-            ∙ checked-before (eventOf kind (tokensAt s b c)) (eventsIn (i .left - 1) s n);
+        few = omega (arith, i .few);
+        same = more ∙ ap (λ (x : Parsed). plus count (checkEvents (andThen at x (λ m. eventsIn (i .left - 1) s m)))) w
+            ∙ plus-one count (eventOf kind (tokensAt s b c)) (eventsIn (i .left - 1) s n);
       }
 
   pub check-less : (r : EventRead) (kind : Rattle.drive.specs.declared.Kind.Kind) (b c n : ℕ) → parsedIn s r ≡ eventAt s at → r ≡ R.Is kind b c n
@@ -76,15 +93,17 @@ module _ (s : List ℕ) (start at : ℕ) (i : Checking s start at) (h : at < len
 
   pub check-broken : (r : EventRead) → parsedIn s r ≡ eventAt s at → r ≡ R.Bad → badAt at ≡ checkFrom s start
   check-broken r e q =
-      sym (more ∙ ap (λ (x : Parsed). checkEvents (andThen at x (λ m. eventsIn (i .left - 1) s m))) (sym e ∙ ap (parsedIn s) q))
+      sym (more ∙ ap (λ (x : Parsed). plus count (checkEvents (andThen at x (λ m. eventsIn (i .left - 1) s m)))) (sym e ∙ ap (parsedIn s) q))
 
 no-events : (k : ℕ) (s : List ℕ) (at : ℕ) → length s ≤ at → eventsIn k s at ≡ events []
 unfolding eventsIn
 no-events zero s at h = refl
 no-events (suc k) s at h = sym (cond-false (ltb at (length s)) _ _ _ (le-ltb at (length s) h) refl)
 
-pub check-done : (s : List ℕ) (start at : ℕ) → Checking s start at → length s ≤ at → reads ≡ checkFrom s start
-check-done s start at i h = sym (i .same ∙ ap checkEvents (no-events (i .left) s at h))
+pub check-done : (s : List ℕ) (start at count : ℕ) → Checking s start at count → length s ≤ at → reads count ≡ checkFrom s start
+check-done s start at count i h =
+    let e : count + 0 ≡ count = omega arith in
+    sym (i .same ∙ ap (λ (o : Events). plus count (checkEvents o)) (no-events (i .left) s at h) ∙ ap reads e)
 
 -- ---- the whole
 

@@ -69,25 +69,25 @@ withHeader s noHeader = bad 0
 unfoldable pub readScript : List ℕ → Script
 readScript s = cond (ltb 65536 (length s)) (bad 0) (withHeader s (headerAt s))
 
--- what the check tells: that the script reads, or the place
+-- what the check tells: how many events there are, or the place
 
 pub data Check : Type 0 where
-  reads : Check
+  reads : (count : ℕ) → Check
   badAt : (place : ℕ) → Check
 
 abbrev pub checkedIn : Checked → Check
-checkedIn C.Reads = reads
+checkedIn (C.Reads count) = reads count
 checkedIn (C.BadAt place) = badAt place
 
 abbrev pub checkEvents : Events → Check
-checkEvents (events es) = reads
+checkEvents (events es) = reads (length es)
 checkEvents (badFrom place) = badAt place
 
 unfoldable pub checkFrom : List ℕ → ℕ → Check
 checkFrom s at = checkEvents (eventsFrom s at)
 
 abbrev pub checkScript : Script → Check
-checkScript (accepted capacity bands sensors es) = reads
+checkScript (accepted capacity bands sensors es) = reads (length es)
 checkScript (bad place) = badAt place
 
 unfoldable pub checkOf : List ℕ → Check

@@ -42,9 +42,9 @@ pub enum HeaderRead {
     Bad,
 }
 
-// Whether a script reads to its end, or the place of what is bad.
+// How many events a script has that reads to its end, or the place of what is bad.
 pub enum Checked {
-    Reads,
+    Reads(usize),
     BadAt(usize),
 }
 
@@ -287,21 +287,23 @@ pub fn header_at(script: &[u8]) -> HeaderRead
     HeaderRead::Bad
 }
 
-// Whether the events from a place on read to the script's end.
+// How many events there are from a place on, where they read to the script's end.
 fn check_from(script: &[u8], start: usize) -> Checked
     ensures { λ r. ⌜ checkedIn r ≡ Rattle.script.specs.Whole.checkFrom (now (script .entry)) start ⌝ }
 {
     let mut at = start;
+    let mut count: usize = 0;
     while at < script.len() {
         let EventRead::Is(_, _, _, next) = event_at(script, at) else {
             return Checked::BadAt(at);
         };
         at = next;
+        count += 1;
     }
-    Checked::Reads
+    Checked::Reads(count)
 }
 
-// Whether a script reads to its end, or the place of what is bad.
+// How many events a script has, or the place of what is bad in it.
 pub fn check(script: &[u8]) -> Checked
     ensures { λ r. ⌜ checkedIn r ≡ checkOf (now (script .entry)) ⌝ }
 {

@@ -6,10 +6,10 @@ use Rattle.script.proofs.check_from.Statement.{statement}
 use Rattle.script.proofs.check_from.Tie as tie
 
 abbrev Inv-loop : tie.InvT-loop
-Inv-loop script start at₀ at = Checking script start at
+Inv-loop script start at₀ count₀ at count = Checking script start at count
 
 abbrev μ-loop : tie.MeasureT-loop
-μ-loop script start at₀ at = length script - at
+μ-loop script start at₀ count₀ at count = length script - at
 
 loop-holds : tie.Need-loop-holds Inv-loop μ-loop
 loop-holds c = search check-begin
@@ -25,6 +25,9 @@ enum-told c = search needs
 
 returns : tie.Need-returns Inv-loop μ-loop
 returns c = search check-broken
+
+add-count : tie.Need-add-count Inv-loop μ-loop
+add-count c = search needs
 
 loop-less : tie.Need-loop-less Inv-loop μ-loop
 loop-less c = search check-less
@@ -46,6 +49,7 @@ check-from-spec =
     enum-known-next
     enum-told
     returns
+    add-count
     loop-less
     loop-again
     returns-2)
