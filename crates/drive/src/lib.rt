@@ -86,7 +86,7 @@ impl Drive {
     }
 
     // Whether a header is in range.
-    fn in_range(capacity: u64, bands: u64, sensors: u64) -> bool
+    pub fn in_range(capacity: u64, bands: u64, sensors: u64) -> bool
         ensures { λ r. ⌜ r ≡ headerFits capacity bands sensors ⌝ }
     {
         if capacity < 1 {

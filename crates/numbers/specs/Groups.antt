@@ -1,0 +1,43 @@
+-- Document 01, 'Script': "Every number is in groups of seven bits, low group first, top bit set when more follow. Shortest form only, below
+-- 2^64."
+use Prim.Native.Nat.{ℕ, zero, suc, _+_, _*_, _/_, _%_}
+use mathlib.Core.Bool.{cond}
+use mathlib.Core.List.{List, [], _∷_}
+use lib.Dec.{eqb, ltb}
+use lib.ListN.{drop}
+use Rattle.numbers.specs.declared.Number.{Number}
+use Rattle.numbers.specs.declared.Number.the-variants.{Is, Bad}
+
+-- what stands at a place: a number and the place after it, or none in this form
+pub data Found : Type 0 where
+  found : (value next : ℕ) → Found
+  none : Found
+
+-- the code's answer in these terms
+abbrev pub foundIn : Number → Found
+foundIn (Is value next) = found value next
+foundIn Bad = none
+
+-- a group in front of a number: the number is not 0, or the form would not be the shortest, and the whole is below 2^64
+abbrev pub prefixed : ℕ → Found → Found
+prefixed group (found v next) = cond (eqb v 0) none (cond (ltb v 144115188075855872) (found (group % 128 + 128 * v) next) none)
+prefixed group none = none
+
+-- the number that starts the bytes, whose first has the place at
+unfoldable pub numberFrom : ℕ → List ℕ → Found
+numberFrom at [] = none
+numberFrom at (b ∷ bytes) = cond (ltb b 128) (found b (at + 1)) (prefixed b (numberFrom (at + 1) bytes))
+
+abbrev pub numberAt : List ℕ → ℕ → Found
+numberAt bytes at = numberFrom at (drop at bytes)
+
+-- the same with at most so many groups, as the code counts them; `ten` says that ten are enough
+unfoldable pub groupsFrom : ℕ → ℕ → List ℕ → Found
+groupsFrom zero at bytes = none
+groupsFrom (suc k) at [] = none
+groupsFrom (suc k) at (b ∷ bytes) = cond (ltb b 128) (found b (at + 1)) (prefixed b (groupsFrom k (at + 1) bytes))
+
+-- the groups of a number, at most so many: the bytes that read to it
+unfoldable pub groupsOf : ℕ → ℕ → List ℕ
+groupsOf zero v = []
+groupsOf (suc k) v = cond (ltb v 128) (v ∷ []) ((v % 128 + 128) ∷ groupsOf k (v / 128))

@@ -1,0 +1,60 @@
+// The numbers of a script (document 01, 'Script'): groups of seven bits, low group first, in shortest form, below 2^64.
+ghost use mathlib.Core.Path.{_≡_};
+ghost use lib.ListN.{drop};
+ghost use Rattle.numbers.specs.Groups.{foundIn, prefixed, groupsFrom, numberAt};
+
+// What stands at a place of a script.
+pub enum Number {
+    // its value, and the place after it
+    Is(u64, usize),
+    Bad,
+}
+
+fn wide(b: u8) -> u64
+    ensures { λ r. ⌜ r ≡ b ⌝ }
+{
+    b as u64
+}
+
+// A group whose top bit is set, in front of the number that the groups after it make.
+fn joined(group: u64, rest: Number) -> Number
+    ensures { λ r. ⌜ foundIn r ≡ prefixed group (foundIn rest) ⌝ }
+{
+    match rest {
+        Number::Is(v, next) => {
+            if v == 0 {
+                return Number::Bad;
+            }
+            if v < 144_115_188_075_855_872 {
+                return Number::Is(group % 128 + 128 * v, next);
+            }
+            Number::Bad
+        }
+        Number::Bad => Number::Bad,
+    }
+}
+
+// The number at a place, in at most `left` groups.
+fn groups_at(bytes: &[u8], at: usize, left: usize) -> Number
+    ensures { λ r. ⌜ foundIn r ≡ groupsFrom left at (drop at (now (bytes .entry))) ⌝ }
+{
+    if left == 0 {
+        return Number::Bad;
+    }
+    if bytes.len() <= at {
+        return Number::Bad;
+    }
+    let group = wide(bytes[at]);
+    if group < 128 {
+        return Number::Is(group, at + 1);
+    }
+    let rest = groups_at(bytes, at + 1, left - 1);
+    joined(group, rest)
+}
+
+// The number at a place of the bytes.
+pub fn number_at(bytes: &[u8], at: usize) -> Number
+    ensures { λ r. ⌜ foundIn r ≡ numberAt (now (bytes .entry)) at ⌝ }
+{
+    groups_at(bytes, at, 10)
+}

@@ -1,0 +1,111 @@
+-- Fields one after the other: what a call found, and what is read on from there. `search fields` goes along a chain of them.
+use mathlib.Core.Path.{_≡_, refl, sym, ap, _∙_}
+use Prim.Native.Nat.{ℕ, _+_, _-_, _/_, _%_, _≤_, _<_}
+use mathlib.Core.Bool.{Bool, cond}
+use mathlib.Core.List.{List}
+use lib.Dec.{eqb, leb}
+use lib.ListN.{length}
+use borrow.Author.Tests.{le-leb, lt-leb, eq-eqb, ne-eqb}
+use Rattle.base.specs.Columns.{named}
+use Rattle.base.proofs.Cases.{cond-true, cond-false}
+use Rattle.numbers.specs.declared.Number.{Number}
+use Rattle.numbers.specs.declared.Number.the-variants.{Is, Bad}
+use Rattle.numbers.specs.Groups.{Found, found, foundIn, numberAt}
+use Rattle.script.specs.declared.Part.{Part}
+use Rattle.script.specs.declared.Part.the-variants as P
+use Rattle.script.specs.Fields.{Parsed, broken, field, Stretch, stretch, cut, partIn, fieldTokens, tokensAt, columnAt, stretchAt, expressionAt, ofKind, eventAt}
+
+-- a number that does not read, and one that does
+pub read-bad : (r : Number) (f : Found) (k : ℕ → ℕ → Parsed) → foundIn r ≡ f → r ≡ Bad → broken ≡ field f k
+read-bad r f k e q = sym (ap (λ (x : Found). field x k) (sym e ∙ ap foundIn q))
+
+pub read-is : (r : Number) (f : Found) (k : ℕ → ℕ → Parsed) (v n : ℕ) (p : Parsed) → foundIn r ≡ f → r ≡ Is v n → p ≡ k v n → p ≡ field f k
+read-is r f k v n p e q w = w ∙ sym (ap (λ (x : Found). field x k) (sym e ∙ ap foundIn q))
+
+-- an expression's bytes
+pub tokens-bad : (s : List ℕ) (r : Part) (f : Stretch) (k : List ℕ → ℕ → Parsed) → partIn r ≡ f → r ≡ P.Bad → broken ≡ fieldTokens s f k
+tokens-bad s r f k e q = sym (ap (λ (x : Stretch). fieldTokens s x k) (sym e ∙ ap partIn q))
+
+pub tokens-is : (s : List ℕ) (r : Part) (f : Stretch) (k : List ℕ → ℕ → Parsed) (start count n : ℕ) (p : Parsed) → partIn r ≡ f
+    → r ≡ P.Is start count n → p ≡ k (tokensAt s start count) n → p ≡ fieldTokens s f k
+tokens-is s r f k start count n p e q w = w ∙ sym (ap (λ (x : Stretch). fieldTokens s x k) (sym e ∙ ap partIn q))
+
+-- a mask with an unknown bit, and one without
+pub mask-unknown : (mask most : ℕ) (x : Parsed) → most < mask → broken ≡ cond (leb mask most) x broken
+mask-unknown mask most x h = sym (ap (λ (b : Bool). cond b x broken) (lt-leb mask most h))
+
+pub mask-known : (mask most : ℕ) (x p : Parsed) → mask ≤ most → p ≡ x → p ≡ cond (leb mask most) x broken
+mask-known mask most x p h w = w ∙ sym (ap (λ (b : Bool). cond b x broken) (le-leb mask most h))
+
+pub ruleset fields = (read-bad, read-is, tokens-bad, tokens-is, mask-unknown, mask-known)
+
+-- ---- a column, an expression's bytes and their part of the script
+
+pub column-named : (s : List ℕ) (at mask bit : ℕ) (r : Number) → mask / bit % 2 ≡ 1 → foundIn r ≡ numberAt s at → foundIn r ≡ columnAt s at mask bit
+column-named s at mask bit r e q = cond-true (named bit mask) _ _ _ (eq-eqb (mask / bit % 2) 1 e) q
+
+pub column-free : (s : List ℕ) (at mask bit : ℕ) → (mask / bit % 2 ≡ 1 → ⊥) → found 0 at ≡ columnAt s at mask bit
+column-free s at mask bit n = cond-false (named bit mask) _ _ _ (ne-eqb (mask / bit % 2) 1 n) refl
+
+pub no-expression : (s : List ℕ) (at mask : ℕ) → (mask / 32 % 2 ≡ 1 → ⊥) → stretch 0 0 at ≡ expressionAt s at mask
+no-expression s at mask n = cond-false (named 32 mask) _ _ _ (ne-eqb (mask / 32 % 2) 1 n) refl
+
+module _ (s : List ℕ) (at mask : ℕ) (r : Number) (h : mask / 32 % 2 ≡ 1) (e : foundIn r ≡ numberAt s at) where
+  there : stretchAt s (foundIn r) ≡ expressionAt s at mask
+  there = cond-true (named 32 mask) _ _ _ (eq-eqb (mask / 32 % 2) 1 h) (ap (stretchAt s) e)
+
+  pub expression-bad : r ≡ Bad → cut ≡ expressionAt s at mask
+  expression-bad q = sym (ap (λ (x : Number). stretchAt s (foundIn x)) q) ∙ there
+
+  module _ (size n : ℕ) (q : r ≡ Is size n) where
+    at-size : stretchAt s (found size n) ≡ expressionAt s at mask
+    at-size = sym (ap (λ (x : Number). stretchAt s (foundIn x)) q) ∙ there
+
+    pub expression-long : 1024 < size → cut ≡ expressionAt s at mask
+    expression-long k = cond-false (leb size 1024) _ _ _ (lt-leb size 1024 k) refl ∙ at-size
+
+    pub expression-past : size ≤ 1024 → length s < n → cut ≡ expressionAt s at mask
+    expression-past k l =
+        cond-true (leb size 1024) _ _ _ (le-leb size 1024 k) (cond-false (leb n (length s)) _ _ _ (lt-leb n (length s) l) refl) ∙ at-size
+
+    pub expression-cut : size ≤ 1024 → n ≤ length s → length s - n < size → cut ≡ expressionAt s at mask
+    expression-cut k l m =
+        cond-true (leb size 1024) _ _ _ (le-leb size 1024 k)
+        (cond-true (leb n (length s)) _ _ _ (le-leb n (length s) l) (cond-false (leb size (length s - n)) _ _ _ (lt-leb size (length s - n) m) refl))
+        ∙ at-size
+
+    pub expression-is : size ≤ 1024 → n ≤ length s → size ≤ length s - n → stretch n size (n + size) ≡ expressionAt s at mask
+    expression-is k l m =
+        cond-true (leb size 1024) _ _ _ (le-leb size 1024 k)
+        (cond-true (leb n (length s)) _ _ _ (le-leb n (length s) l) (cond-true (leb size (length s - n)) _ _ _ (le-leb size (length s - n) m) refl))
+        ∙ at-size
+
+-- ---- the kind
+
+pub kind-bad : (s : List ℕ) (at : ℕ) (r : Number) → foundIn r ≡ numberAt s at → r ≡ Bad → broken ≡ eventAt s at
+unfolding eventAt
+kind-bad s at r e q = read-bad r (numberAt s at) _ e q
+
+kind-is : (s : List ℕ) (at : ℕ) (r : Number) (kind n : ℕ) → foundIn r ≡ numberAt s at → r ≡ Is kind n → ofKind kind s n ≡ eventAt s at
+unfolding eventAt
+kind-is s at r kind n e q = read-is r (numberAt s at) (λ k next. ofKind k s next) kind n (ofKind kind s n) e q refl
+
+-- a kind that is known, by its number
+pub kind-known : (s : List ℕ) (at : ℕ) (r : Number) (kind n m : ℕ) (p : Parsed) → foundIn r ≡ numberAt s at → r ≡ Is kind n → kind ≡ m → p ≡ ofKind m s n
+    → p ≡ eventAt s at
+kind-known s at r kind n m p e q k w = w ∙ ap (λ (x : ℕ). ofKind x s n) (sym k) ∙ kind-is s at r kind n e q
+
+unknown : (s : List ℕ) (n kind : ℕ) → (kind ≡ 1 → ⊥) → (kind ≡ 2 → ⊥) → (kind ≡ 3 → ⊥) → (kind ≡ 4 → ⊥) → (kind ≡ 5 → ⊥) → (kind ≡ 6 → ⊥)
+    → (kind ≡ 7 → ⊥) → broken ≡ ofKind kind s n
+unknown s n kind a b c d e f g =
+    cond-false (eqb kind 1) _ _ _ (ne-eqb kind 1 a)
+    (cond-false (eqb kind 2) _ _ _ (ne-eqb kind 2 b)
+    (cond-false (eqb kind 3) _ _ _ (ne-eqb kind 3 c)
+    (cond-false (eqb kind 4) _ _ _ (ne-eqb kind 4 d)
+    (cond-false (eqb kind 5) _ _ _ (ne-eqb kind 5 e)
+    (cond-false (eqb kind 6) _ _ _ (ne-eqb kind 6 f)
+    (cond-false (eqb kind 7) _ _ _ (ne-eqb kind 7 g) refl))))))
+
+pub kind-unknown : (s : List ℕ) (at : ℕ) (r : Number) (kind n : ℕ) → foundIn r ≡ numberAt s at → r ≡ Is kind n → (kind ≡ 1 → ⊥) → (kind ≡ 2 → ⊥)
+    → (kind ≡ 3 → ⊥) → (kind ≡ 4 → ⊥) → (kind ≡ 5 → ⊥) → (kind ≡ 6 → ⊥) → (kind ≡ 7 → ⊥) → broken ≡ eventAt s at
+kind-unknown s at r kind n x q a b c d e f g = unknown s n kind a b c d e f g ∙ kind-is s at r kind n x q

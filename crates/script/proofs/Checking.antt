@@ -1,0 +1,137 @@
+-- The loop that reads events to the script's end, and the header before it.
+use mathlib.Core.Path.{_≡_, refl, sym, ap, _∙_}
+use Prim.Native.Nat.{ℕ, zero, suc, _+_, _-_, _≤_, _<_}
+use native.Mathlib.Omega.{arith}
+use mathlib.Core.List.{List, []}
+use lib.Dec.{ltb}
+use lib.ListN.{length, take, drop}
+use borrow.Author.Tests.{lt-ltb, le-ltb, le-leb}
+use Rattle.base.proofs.Cases.{cond-true, cond-false}
+use Rattle.numbers.specs.declared.Number.{Number}
+use Rattle.numbers.specs.declared.Number.the-variants.{Is, Bad}
+use Rattle.numbers.specs.Groups.{Found, foundIn}
+use Rattle.drive.specs.Events.{Event, eventOf}
+use Rattle.script.specs.declared.EventRead.{EventRead}
+use Rattle.script.specs.declared.EventRead.the-variants as R
+use Rattle.script.specs.declared.HeaderRead.{HeaderRead}
+use Rattle.script.specs.declared.HeaderRead.the-variants as H
+use Rattle.script.specs.declared.Checked.{Checked}
+use Rattle.script.specs.Fields.{Parsed, event, parsedIn, tokensAt, eventAt}
+use Rattle.script.specs.Whole.{Header, noHeader, fieldHeader, headerIn, headerAt, Events, events, badFrom, before, andThen, eventsIn, eventsFrom, withEvents, withHeader, readScript, Check, reads, badAt, checkedIn, checkEvents, checkFrom, checkScript, checkOf}
+use Rattle.script.proofs.Progress.{event-past}
+
+-- ---- the header
+
+pub header-bad : (r : Number) (f : Found) (k : ℕ → ℕ → Header) → foundIn r ≡ f → r ≡ Bad → noHeader ≡ fieldHeader f k
+header-bad r f k e q = sym (ap (λ (x : Found). fieldHeader x k) (sym e ∙ ap foundIn q))
+
+pub header-is : (r : Number) (f : Found) (k : ℕ → ℕ → Header) (v n : ℕ) (p : Header) → foundIn r ≡ f → r ≡ Is v n → p ≡ k v n → p ≡ fieldHeader f k
+header-is r f k v n p e q w = w ∙ sym (ap (λ (x : Found). fieldHeader x k) (sym e ∙ ap foundIn q))
+
+pub ruleset headers = (header-bad, header-is)
+
+-- ---- the events
+
+-- so many events more
+abbrev plus : ℕ → Check → Check
+plus n (reads m) = reads (n + m)
+plus n (badAt p) = badAt p
+
+plus-none : (c : Check) → c ≡ plus 0 c
+plus-none (reads m) = let e : m ≡ 0 + m = omega arith in ap reads e
+plus-none (badAt p) = refl
+
+-- an event in front
+plus-one : (n : ℕ) (e : Event) (o : Events) → plus n (checkEvents (before e o)) ≡ plus (n + 1) (checkEvents o)
+plus-one n e (events es) = let q : n + suc (length es) ≡ n + 1 + length es = omega arith in ap reads q
+plus-one n e (badFrom p) = refl
+
+-- what is still to be checked decides, with the events counted so far
+pub record Checking (s : List ℕ) (start at count : ℕ) : Type 0 where
+  pub left : ℕ
+  pub enough : length s - at ≤ left
+  pub few : count ≤ at
+  pub same : checkFrom s start ≡ plus count (checkEvents (eventsIn left s at))
+
+pub check-begin : (s : List ℕ) (start : ℕ) → Checking s start start 0
+unfolding checkFrom eventsFrom
+check-begin s start = record {
+  left = length s - start;
+  enough = omega arith;
+  few = omega arith;
+  same = plus-none (checkEvents (eventsIn (length s - start) s start));
+}
+
+-- an event at a place within the script
+one-event : (k : ℕ) (s : List ℕ) (at : ℕ) → at < length s → eventsIn (suc k) s at ≡ andThen at (eventAt s at) (λ n. eventsIn k s n)
+unfolding eventsIn
+one-event k s at h = sym (cond-true (ltb at (length s)) _ _ _ (lt-ltb at (length s) h) refl)
+
+module _ (s : List ℕ) (start at count : ℕ) (i : Checking s start at count) (h : at < length s) where
+  more : checkFrom s start ≡ plus count (checkEvents (andThen at (eventAt s at) (λ n. eventsIn (i .left - 1) s n)))
+  more =
+      let e : i .left ≡ suc (i .left - 1) = omega (arith, i .enough) in
+      i .same ∙ ap (λ (k : ℕ). plus count (checkEvents (eventsIn k s at))) e ∙ ap (λ (o : Events). plus count (checkEvents o)) (one-event (i .left - 1) s at h)
+
+  pub check-again : (r : EventRead) (kind : Rattle.drive.specs.declared.Kind.Kind) (b c n : ℕ) → parsedIn s r ≡ eventAt s at → r ≡ R.Is kind b c n
+      → Checking s start n (count + 1)
+  check-again r kind b c n e q =
+      let w : eventAt s at ≡ event (eventOf kind (tokensAt s b c)) n = sym e ∙ ap (parsedIn s) q in
+      let p : at < n = event-past s at (eventOf kind (tokensAt s b c)) n w in
+      record {
+        left = i .left - 1;
+        enough = omega (arith, i .enough);
+        few = omega (arith, i .few);
+        same = more ∙ ap (λ (x : Parsed). plus count (checkEvents (andThen at x (λ m. eventsIn (i .left - 1) s m)))) w
+            ∙ plus-one count (eventOf kind (tokensAt s b c)) (eventsIn (i .left - 1) s n);
+      }
+
+  pub check-less : (r : EventRead) (kind : Rattle.drive.specs.declared.Kind.Kind) (b c n : ℕ) → parsedIn s r ≡ eventAt s at → r ≡ R.Is kind b c n
+      → length s - n < length s - at
+  check-less r kind b c n e q =
+      omega (arith, event-past s at (eventOf kind (tokensAt s b c)) n (sym e ∙ ap (parsedIn s) q))
+
+  pub check-broken : (r : EventRead) → parsedIn s r ≡ eventAt s at → r ≡ R.Bad → badAt at ≡ checkFrom s start
+  check-broken r e q =
+      sym (more ∙ ap (λ (x : Parsed). plus count (checkEvents (andThen at x (λ m. eventsIn (i .left - 1) s m)))) (sym e ∙ ap (parsedIn s) q))
+
+no-events : (k : ℕ) (s : List ℕ) (at : ℕ) → length s ≤ at → eventsIn k s at ≡ events []
+unfolding eventsIn
+no-events zero s at h = refl
+no-events (suc k) s at h = sym (cond-false (ltb at (length s)) _ _ _ (le-ltb at (length s) h) refl)
+
+pub check-done : (s : List ℕ) (start at count : ℕ) → Checking s start at count → length s ≤ at → reads count ≡ checkFrom s start
+check-done s start at count i h =
+    let e : count + 0 ≡ count = omega arith in
+    sym (i .same ∙ ap (λ (o : Events). plus count (checkEvents o)) (no-events (i .left) s at h) ∙ ap reads e)
+
+-- ---- the whole
+
+pub check-overlong : (s : List ℕ) → 65536 < length s → badAt 0 ≡ checkOf s
+unfolding checkOf readScript
+check-overlong s h = ap checkScript (cond-true (ltb 65536 (length s)) _ _ _ (lt-ltb 65536 (length s) h) refl)
+
+module _ (s : List ℕ) (h : length s ≤ 65536) (r : HeaderRead) (e : headerIn r ≡ headerAt s) where
+  with-header : checkScript (withHeader s (headerIn r)) ≡ checkOf s
+  unfolding checkOf readScript
+  with-header = ap checkScript (cond-false (ltb 65536 (length s)) _ _ _ (le-ltb 65536 (length s) h) (ap (withHeader s) e))
+
+  pub check-no-header : r ≡ H.Bad → badAt 0 ≡ checkOf s
+  check-no-header q = sym (ap (λ (x : HeaderRead). checkScript (withHeader s (headerIn x))) q) ∙ with-header
+
+  pub check-events : (a b c n : ℕ) (k : Checked) → r ≡ H.Is a b c n → checkedIn k ≡ checkFrom s n → checkedIn k ≡ checkOf s
+  unfolding checkFrom
+  check-events a b c n k q w = w ∙ told (eventsFrom s n) ∙ sym (ap (λ (x : HeaderRead). checkScript (withHeader s (headerIn x))) q) ∙ with-header
+    where
+      told : (o : Events) → checkEvents o ≡ checkScript (withEvents a b c o)
+      told (events es) = refl
+      told (badFrom p) = refl
+
+-- ---- the part of the script that holds an expression's bytes
+
+pub tokens-part : (s : List ℕ) (start count : ℕ) → start ≤ length s → count ≤ length s - start
+    → take (start + count - start) (drop start s) ≡ tokensAt s start count
+tokens-part s start count h k =
+    let e : start + count - start ≡ count = omega arith in
+    ap (λ (n : ℕ). take n (drop start s)) e
+    ∙ cond-true (lib.Dec.leb start (length s)) _ _ _ (le-leb start (length s) h) (cond-true (lib.Dec.leb count (length s - start)) _ _ _ (le-leb count (length s - start) k) refl)

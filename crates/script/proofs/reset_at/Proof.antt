@@ -1,0 +1,25 @@
+use Rattle.script.specs.Fields.{resetAt}
+use Rattle.script.proofs.Chains.{fields}
+use borrow.Author.Needs.{needs}
+use Rattle.script.proofs.reset_at.Statement.{statement}
+use Rattle.script.proofs.reset_at.Tie as tie
+
+number-at-requires : tie.Need-number-at-requires
+number-at-requires c κs = search needs
+
+enum-known-kind : tie.Need-enum-known-kind
+enum-known-kind c = search needs
+
+enum-told : tie.Need-enum-told
+enum-told c = search needs
+
+returns : tie.Need-returns
+unfolding resetAt
+returns c = search fields depth 24 fits 4000
+
+returns-2 : tie.Need-returns-2
+unfolding resetAt
+returns-2 c = search fields depth 24 fits 4000
+
+pub reset-at-spec : {M : Type 1} → statement M
+reset-at-spec = tie.close (tie.spec number-at-requires enum-known-kind enum-told returns returns-2)

@@ -1,0 +1,141 @@
+-- Document 01, 'Script': the events and their fields, each read at its place.
+use Prim.Native.Nat.{ℕ, _+_, _-_}
+use mathlib.Core.Bool.{cond}
+use mathlib.Core.List.{List, []}
+use lib.Dec.{eqb, leb}
+use lib.ListN.{length, take, drop}
+use Rattle.base.specs.Columns.{named}
+use Rattle.numbers.specs.Groups.{Found, found, none, numberAt}
+use Rattle.drive.specs.Events.{Event, reading, elapse, reset, sensorSet, bandSet, geometry, transfer, eventOf}
+use Rattle.script.specs.declared.EventRead.{EventRead}
+use Rattle.script.specs.declared.EventRead.the-variants as R
+use Rattle.script.specs.declared.Part.{Part}
+use Rattle.script.specs.declared.Part.the-variants as P
+
+-- what stands at a place: an event and the place after it, or none
+pub data Parsed : Type 0 where
+  event : (e : Event) (next : ℕ) → Parsed
+  broken : Parsed
+
+-- a field, and what its value and the place after it go on to: "a cut field, a number not in shortest form or not below 2^64" is bad
+abbrev pub field : Found → (ℕ → ℕ → Parsed) → Parsed
+field (found v next) follow = follow v next
+field none follow = broken
+
+-- "values by rising bit": the column of a bit where the mask names it, else 0, which takes no bytes
+abbrev pub columnAt : List ℕ → ℕ → ℕ → ℕ → Found
+columnAt s at mask bit = cond (named bit mask) (numberAt s at) (found 0 at)
+
+-- 1 "reading (sensor, value)"
+unfoldable pub readingAt : List ℕ → ℕ → Parsed
+readingAt s at = field (numberAt s at) (λ sensor at. field (numberAt s at) (λ value at. event (reading sensor value) at))
+
+-- 2 "elapse (n)"
+unfoldable pub elapseAt : List ℕ → ℕ → Parsed
+elapseAt s at = field (numberAt s at) (λ n at. event (elapse n) at)
+
+-- 3 "reset (type)"
+unfoldable pub resetAt : List ℕ → ℕ → Parsed
+resetAt s at = field (numberAt s at) (λ type at. event (reset type) at)
+
+-- 4 "sensor Set (sensor, mask, values by rising bit)"; an unknown mask bit is bad
+unfoldable pub sensorSetAt : List ℕ → ℕ → Parsed
+sensorSetAt s at =
+    field (numberAt s at) (λ sensor at.
+    field (numberAt s at) (λ mask at.
+    cond (leb mask 127)
+    (field (columnAt s at mask 1) (λ enabled at.
+    field (columnAt s at mask 2) (λ on-threshold at.
+    field (columnAt s at mask 4) (λ on-fraction at.
+    field (columnAt s at mask 8) (λ on-timeout at.
+    field (columnAt s at mask 16) (λ off-threshold at.
+    field (columnAt s at mask 32) (λ off-fraction at.
+    field (columnAt s at mask 64) (λ off-timeout at.
+    event (sensorSet sensor (record {
+      mask = mask;
+      enabled = enabled;
+      «on_threshold» = on-threshold;
+      «on_fraction» = on-fraction;
+      «on_timeout» = on-timeout;
+      «off_threshold» = off-threshold;
+      «off_fraction» = off-fraction;
+      «off_timeout» = off-timeout;
+    })) at))))))))
+    broken))
+
+-- "the expression as byte length up to 1,024 and then its bytes": where they start, how many they are, and the place after them
+pub data Stretch : Type 0 where
+  stretch : (start count next : ℕ) → Stretch
+  cut : Stretch
+
+abbrev pub stretchAt : List ℕ → Found → Stretch
+stretchAt s (found size at) = cond (leb size 1024) (cond (leb at (length s)) (cond (leb size (length s - at)) (stretch at size (at + size)) cut) cut) cut
+stretchAt s none = cut
+
+abbrev pub expressionAt : List ℕ → ℕ → ℕ → Stretch
+expressionAt s at mask = cond (named 32 mask) (stretchAt s (numberAt s at)) (stretch 0 0 at)
+
+abbrev pub partIn : Part → Stretch
+partIn (P.Is start count next) = stretch start count next
+partIn P.Bad = cut
+
+-- "an expression's bytes are a part of the script itself"; none where they would not lie in it
+abbrev pub tokensAt : List ℕ → ℕ → ℕ → List ℕ
+tokensAt s start count = cond (leb start (length s)) (cond (leb count (length s - start)) (take count (drop start s)) []) []
+
+abbrev pub fieldTokens : List ℕ → Stretch → (List ℕ → ℕ → Parsed) → Parsed
+fieldTokens s (stretch start count next) follow = follow (tokensAt s start count) next
+fieldTokens s cut follow = broken
+
+-- 5 "band Set (band, mask, values likewise, the expression as byte length up to 1,024 and then its bytes)"
+unfoldable pub bandSetAt : List ℕ → ℕ → Parsed
+bandSetAt s at =
+    field (numberAt s at) (λ band at.
+    field (numberAt s at) (λ mask at.
+    cond (leb mask 63)
+    (field (columnAt s at mask 1) (λ read-lock-enabled at.
+    field (columnAt s at mask 2) (λ write-lock-enabled at.
+    field (columnAt s at mask 4) (λ read-locked at.
+    field (columnAt s at mask 8) (λ write-locked at.
+    field (columnAt s at mask 16) (λ lock-on-reset at.
+    fieldTokens s (expressionAt s at mask) (λ tokens at.
+    event (bandSet band (record {
+      mask = mask;
+      «read_lock_enabled» = read-lock-enabled;
+      «write_lock_enabled» = write-lock-enabled;
+      «read_locked» = read-locked;
+      «write_locked» = write-locked;
+      «lock_on_reset» = lock-on-reset;
+    }) tokens) at)))))))
+    broken))
+
+-- 6 "geometry (band, start, length)"
+unfoldable pub geometryAt : List ℕ → ℕ → Parsed
+geometryAt s at =
+    field (numberAt s at) (λ band at. field (numberAt s at) (λ start at. field (numberAt s at) (λ length at. event (geometry band start length) at)))
+
+-- 7 "transfer (0 read or 1 write, start, count)"
+unfoldable pub transferAt : List ℕ → ℕ → Parsed
+transferAt s at =
+    field (numberAt s at) (λ direction at.
+    field (numberAt s at) (λ start at. field (numberAt s at) (λ count at. event (transfer direction start count) at)))
+
+-- the event of a kind, whose fields begin at a place; "an unknown kind" is bad
+abbrev pub ofKind : ℕ → List ℕ → ℕ → Parsed
+ofKind kind s at =
+    cond (eqb kind 1) (readingAt s at)
+    (cond (eqb kind 2) (elapseAt s at)
+    (cond (eqb kind 3) (resetAt s at)
+    (cond (eqb kind 4) (sensorSetAt s at)
+    (cond (eqb kind 5) (bandSetAt s at)
+    (cond (eqb kind 6) (geometryAt s at)
+    (cond (eqb kind 7) (transferAt s at)
+    broken))))))
+
+unfoldable pub eventAt : List ℕ → ℕ → Parsed
+eventAt s at = field (numberAt s at) (λ kind at. ofKind kind s at)
+
+-- the code's answer in these terms: the expression's bytes are those of the script
+abbrev pub parsedIn : List ℕ → EventRead → Parsed
+parsedIn s (R.Is kind start count next) = event (eventOf kind (tokensAt s start count)) next
+parsedIn s R.Bad = broken

@@ -1,0 +1,317 @@
+// Scripts (document 01, 'Script'): the header and the events, read at their places.
+ghost use mathlib.Core.Path.{_≡_};
+ghost use Prim.Native.Nat.{_<_};
+ghost use lib.ListN.{length};
+ghost use Rattle.numbers.specs.Groups.{foundIn};
+ghost use Rattle.script.specs.Fields.{
+  columnAt,
+  partIn,
+  expressionAt,
+  parsedIn,
+  readingAt,
+  elapseAt,
+  resetAt,
+  sensorSetAt,
+  bandSetAt,
+  geometryAt,
+  transferAt,
+  eventAt,
+};
+ghost use Rattle.script.specs.Whole.{headerIn, headerAt, checkedIn, checkOf};
+use band::BandColumns;
+use drive::Drive;
+use drive::Kind;
+use numbers::Number;
+use sensor::SensorColumns;
+
+// What reading at a place finds: an event, where its expression's bytes start and how many they are, and the place after it.
+pub enum EventRead {
+    Is(Kind, usize, usize, usize),
+    Bad,
+}
+
+// An expression's bytes: where they start, how many they are, and the place after them.
+pub enum Part {
+    Is(usize, usize, usize),
+    Bad,
+}
+
+// A header in range, and the place after it.
+pub enum HeaderRead {
+    Is(u64, u64, u64, usize),
+    Bad,
+}
+
+// How many events a script has that reads to its end, or the place of what is bad.
+pub enum Checked {
+    Reads(usize),
+    BadAt(usize),
+}
+
+// The most bytes of a script, and of an expression.
+pub const MOST_BYTES: usize = 65_536;
+
+pub const MOST_TOKENS: u64 = 1_024;
+
+// The column of a bit, where the mask names it; else 0, which takes no bytes.
+fn column_at(script: &[u8], at: usize, mask: u64, bit: u64) -> Number
+    requires { ⌜ 0 < bit ⌝ }
+    ensures { λ r. ⌜ foundIn r ≡ columnAt (now (script .entry)) at mask bit ⌝ }
+{
+    if mask / bit % 2 == 1 {
+        return numbers::number_at(script, at);
+    }
+    Number::Is(0, at)
+}
+
+fn reading_at(script: &[u8], at: usize) -> EventRead
+    ensures { λ r. ⌜ parsedIn (now (script .entry)) r ≡ readingAt (now (script .entry)) at ⌝ }
+{
+    let Number::Is(sensor, at1) = numbers::number_at(script, at) else {
+        return EventRead::Bad;
+    };
+    let Number::Is(value, at2) = numbers::number_at(script, at1) else {
+        return EventRead::Bad;
+    };
+    EventRead::Is(Kind::Reading(sensor, value), 0, 0, at2)
+}
+
+fn elapse_at(script: &[u8], at: usize) -> EventRead
+    ensures { λ r. ⌜ parsedIn (now (script .entry)) r ≡ elapseAt (now (script .entry)) at ⌝ }
+{
+    let Number::Is(ticks, at1) = numbers::number_at(script, at) else {
+        return EventRead::Bad;
+    };
+    EventRead::Is(Kind::Elapse(ticks), 0, 0, at1)
+}
+
+fn reset_at(script: &[u8], at: usize) -> EventRead
+    ensures { λ r. ⌜ parsedIn (now (script .entry)) r ≡ resetAt (now (script .entry)) at ⌝ }
+{
+    let Number::Is(kind, at1) = numbers::number_at(script, at) else {
+        return EventRead::Bad;
+    };
+    EventRead::Is(Kind::Reset(kind), 0, 0, at1)
+}
+
+fn sensor_set_at(script: &[u8], at: usize) -> EventRead
+    ensures { λ r. ⌜ parsedIn (now (script .entry)) r ≡ sensorSetAt (now (script .entry)) at ⌝ }
+{
+    let Number::Is(sensor, at1) = numbers::number_at(script, at) else {
+        return EventRead::Bad;
+    };
+    let Number::Is(mask, at2) = numbers::number_at(script, at1) else {
+        return EventRead::Bad;
+    };
+    if 127 < mask {
+        return EventRead::Bad;
+    }
+    let Number::Is(enabled, at3) = column_at(script, at2, mask, 1) else {
+        return EventRead::Bad;
+    };
+    let Number::Is(on_threshold, at4) = column_at(script, at3, mask, 2) else {
+        return EventRead::Bad;
+    };
+    let Number::Is(on_fraction, at5) = column_at(script, at4, mask, 4) else {
+        return EventRead::Bad;
+    };
+    let Number::Is(on_timeout, at6) = column_at(script, at5, mask, 8) else {
+        return EventRead::Bad;
+    };
+    let Number::Is(off_threshold, at7) = column_at(script, at6, mask, 16) else {
+        return EventRead::Bad;
+    };
+    let Number::Is(off_fraction, at8) = column_at(script, at7, mask, 32) else {
+        return EventRead::Bad;
+    };
+    let Number::Is(off_timeout, at9) = column_at(script, at8, mask, 64) else {
+        return EventRead::Bad;
+    };
+    let columns = SensorColumns {
+        mask,
+        enabled,
+        on_threshold,
+        on_fraction,
+        on_timeout,
+        off_threshold,
+        off_fraction,
+        off_timeout,
+    };
+    EventRead::Is(Kind::SensorSet(sensor, columns), 0, 0, at9)
+}
+
+// Where an expression's bytes stand, where the mask names it; else no bytes.
+fn expression_at(script: &[u8], at: usize, mask: u64) -> Part
+    ensures { λ r. ⌜ partIn r ≡ expressionAt (now (script .entry)) at mask ⌝ }
+{
+    if mask / 32 % 2 == 1 {
+        let Number::Is(size, at1) = numbers::number_at(script, at) else {
+            return Part::Bad;
+        };
+        if MOST_TOKENS < size {
+            return Part::Bad;
+        }
+        if script.len() < at1 {
+            return Part::Bad;
+        }
+        let count = size as usize;
+        if script.len() - at1 < count {
+            return Part::Bad;
+        }
+        return Part::Is(at1, count, at1 + count);
+    }
+    Part::Is(0, 0, at)
+}
+
+fn band_set_at(script: &[u8], at: usize) -> EventRead
+    ensures { λ r. ⌜ parsedIn (now (script .entry)) r ≡ bandSetAt (now (script .entry)) at ⌝ }
+{
+    let Number::Is(band, at1) = numbers::number_at(script, at) else {
+        return EventRead::Bad;
+    };
+    let Number::Is(mask, at2) = numbers::number_at(script, at1) else {
+        return EventRead::Bad;
+    };
+    if 63 < mask {
+        return EventRead::Bad;
+    }
+    let Number::Is(read_lock_enabled, at3) = column_at(script, at2, mask, 1) else {
+        return EventRead::Bad;
+    };
+    let Number::Is(write_lock_enabled, at4) = column_at(script, at3, mask, 2) else {
+        return EventRead::Bad;
+    };
+    let Number::Is(read_locked, at5) = column_at(script, at4, mask, 4) else {
+        return EventRead::Bad;
+    };
+    let Number::Is(write_locked, at6) = column_at(script, at5, mask, 8) else {
+        return EventRead::Bad;
+    };
+    let Number::Is(lock_on_reset, at7) = column_at(script, at6, mask, 16) else {
+        return EventRead::Bad;
+    };
+    let Part::Is(start, count, at8) = expression_at(script, at7, mask) else {
+        return EventRead::Bad;
+    };
+    let columns = BandColumns {
+        mask,
+        read_lock_enabled,
+        write_lock_enabled,
+        read_locked,
+        write_locked,
+        lock_on_reset,
+    };
+    EventRead::Is(Kind::BandSet(band, columns), start, count, at8)
+}
+
+fn geometry_at(script: &[u8], at: usize) -> EventRead
+    ensures { λ r. ⌜ parsedIn (now (script .entry)) r ≡ geometryAt (now (script .entry)) at ⌝ }
+{
+    let Number::Is(band, at1) = numbers::number_at(script, at) else {
+        return EventRead::Bad;
+    };
+    let Number::Is(start, at2) = numbers::number_at(script, at1) else {
+        return EventRead::Bad;
+    };
+    let Number::Is(length, at3) = numbers::number_at(script, at2) else {
+        return EventRead::Bad;
+    };
+    EventRead::Is(Kind::Geometry(band, start, length), 0, 0, at3)
+}
+
+fn transfer_at(script: &[u8], at: usize) -> EventRead
+    ensures { λ r. ⌜ parsedIn (now (script .entry)) r ≡ transferAt (now (script .entry)) at ⌝ }
+{
+    let Number::Is(direction, at1) = numbers::number_at(script, at) else {
+        return EventRead::Bad;
+    };
+    let Number::Is(start, at2) = numbers::number_at(script, at1) else {
+        return EventRead::Bad;
+    };
+    let Number::Is(count, at3) = numbers::number_at(script, at2) else {
+        return EventRead::Bad;
+    };
+    EventRead::Is(Kind::Transfer(direction, start, count), 0, 0, at3)
+}
+
+// The event at a place: its kind, and then its fields.
+pub fn event_at(script: &[u8], at: usize) -> EventRead
+    ensures { λ r. ⌜ parsedIn (now (script .entry)) r ≡ eventAt (now (script .entry)) at ⌝ }
+{
+    let Number::Is(kind, at1) = numbers::number_at(script, at) else {
+        return EventRead::Bad;
+    };
+    match kind {
+        1 => reading_at(script, at1),
+        2 => elapse_at(script, at1),
+        3 => reset_at(script, at1),
+        4 => sensor_set_at(script, at1),
+        5 => band_set_at(script, at1),
+        6 => geometry_at(script, at1),
+        7 => transfer_at(script, at1),
+        _ => EventRead::Bad,
+    }
+}
+
+// The bytes of an expression, as a part of the script itself; no bytes where they would not lie in it.
+pub fn tokens_at(script: &[u8], start: usize, count: usize) -> &[u8]
+    ensures { λ r. ⌜ now r ≡ Rattle.script.specs.Fields.tokensAt (now (script .entry)) start count ⌝ }
+{
+    if start <= script.len() {
+        if count <= script.len() - start {
+            &script[start..start + count]
+        } else {
+            &script[0..0]
+        }
+    } else {
+        &script[0..0]
+    }
+}
+
+// The header, where it reads and is in range.
+pub fn header_at(script: &[u8]) -> HeaderRead
+    ensures { λ r. ⌜ headerIn r ≡ headerAt (now (script .entry)) ⌝ }
+{
+    let Number::Is(capacity, at1) = numbers::number_at(script, 0) else {
+        return HeaderRead::Bad;
+    };
+    let Number::Is(bands, at2) = numbers::number_at(script, at1) else {
+        return HeaderRead::Bad;
+    };
+    let Number::Is(sensors, at3) = numbers::number_at(script, at2) else {
+        return HeaderRead::Bad;
+    };
+    if Drive::in_range(capacity, bands, sensors) {
+        return HeaderRead::Is(capacity, bands, sensors, at3);
+    }
+    HeaderRead::Bad
+}
+
+// How many events there are from a place on, where they read to the script's end.
+fn check_from(script: &[u8], start: usize) -> Checked
+    ensures { λ r. ⌜ checkedIn r ≡ Rattle.script.specs.Whole.checkFrom (now (script .entry)) start ⌝ }
+{
+    let mut at = start;
+    let mut count: usize = 0;
+    while at < script.len() {
+        let EventRead::Is(_, _, _, next) = event_at(script, at) else {
+            return Checked::BadAt(at);
+        };
+        at = next;
+        count += 1;
+    }
+    Checked::Reads(count)
+}
+
+// How many events a script has, or the place of what is bad in it.
+pub fn check(script: &[u8]) -> Checked
+    ensures { λ r. ⌜ checkedIn r ≡ checkOf (now (script .entry)) ⌝ }
+{
+    if MOST_BYTES < script.len() {
+        return Checked::BadAt(0);
+    }
+    let HeaderRead::Is(_, _, _, at) = header_at(script) else {
+        return Checked::BadAt(0);
+    };
+    check_from(script, at)
+}
