@@ -1,8 +1,8 @@
 -- Every drive that events reach: the fresh one of a header in range, and what each event makes of one.
-use mathlib.Core.Path.{_≡_, refl, sym, ap, _∙_}
+use mathlib.Core.Path.{_≡_, refl, ap}
 use Prim.Native.Nat.{ℕ, zero, suc, _≤_, _<_}
 use native.Mathlib.Omega.{arith}
-use mathlib.Core.Bool.{Bool, true, false, not, cond, _&&_, _||_}
+use mathlib.Core.Bool.{Bool, true, false, not, cond, _&&_}
 use mathlib.Core.List.{List, [], _∷_, map}
 use lib.Dec.{eqb, leb, ltb}
 use lib.ListN.{length, getD, replicate}
@@ -30,7 +30,7 @@ use Rattle.band.specs.Sets.{columnsFit, formedRow}
 use Rattle.band.proofs.Settling.{fresh-settles, fresh-reset}
 use Rattle.geometry.specs.declared.Span.{Span}
 use Rattle.geometry.specs.Blocks.{bandSpans, overlapping}
-use Rattle.geometry.specs.Events.{noSpan, pastEnd, placed, Within}
+use Rattle.geometry.specs.Events.{noSpan, Within}
 use Rattle.geometry.proofs.Ranges.{neither}
 use Rattle.geometry.proofs.Arms.{end-up-to}
 use Rattle.geometry.proofs.Invariant.{fresh-apart}
@@ -54,7 +54,7 @@ use Rattle.drive.specs.Events.{
   runOf,
 }
 use Rattle.drive.proofs.Settling.{settle-twice}
-use Rattle.reached.specs.Reached.{Table, Stored, RowFits, Shaped, Reached, Fields, AllFields}
+use Rattle.reached.specs.Reached.{Table, Stored, RowFits, InRange, Shaped, Reached, Fields, AllFields}
 use Rattle.reached.proofs.Tables.{fresh-table, map-table, modify-table, set-table}
 
 -- ---- one row
@@ -124,44 +124,14 @@ formed-fits c tokens e k row r = record {
 
 module _ (d : Drive) (r : Shaped d) where
   with-rows : (l : List Row) → Table RowFits freshRow (d .«band_count») l → Shaped (withRows l d)
-  with-rows l t = record {
-    some-blocks = r .some-blocks;
-    blocks = r .blocks;
-    some-bands = r .some-bands;
-    bands = r .bands;
-    few-sensors = r .few-sensors;
-    rows = t;
-    spans = r .spans;
-    apart = r .apart;
-    sensors = r .sensors;
-  }
+  with-rows l t = record { header = r .header; rows = t; spans = r .spans; apart = r .apart; sensors = r .sensors }
 
   with-spans : (l : List Span) → Table (Within (d .capacity)) noSpan (d .«band_count») l → overlapping (bandSpans (d .«band_count») l) ≡ false
       → Shaped (withSpans l d)
-  with-spans l t w = record {
-    some-blocks = r .some-blocks;
-    blocks = r .blocks;
-    some-bands = r .some-bands;
-    bands = r .bands;
-    few-sensors = r .few-sensors;
-    rows = r .rows;
-    spans = t;
-    apart = w;
-    sensors = r .sensors;
-  }
+  with-spans l t w = record { header = r .header; rows = r .rows; spans = t; apart = w; sensors = r .sensors }
 
   with-sensors : (l : List Sensor) → Table Sound freshSensor (d .«sensor_count») l → Shaped (withSensors l d)
-  with-sensors l t = record {
-    some-blocks = r .some-blocks;
-    blocks = r .blocks;
-    some-bands = r .some-bands;
-    bands = r .bands;
-    few-sensors = r .few-sensors;
-    rows = r .rows;
-    spans = r .spans;
-    apart = r .apart;
-    sensors = t;
-  }
+  with-sensors l t = record { header = r .header; rows = r .rows; spans = r .spans; apart = r .apart; sensors = t }
 
   settle-shaped : Shaped (settleOf d)
   unfolding settleOf
@@ -235,23 +205,29 @@ fresh-within : (capacity : ℕ) → Within capacity noSpan
 unfolding noSpan
 fresh-within capacity = record { begins = omega arith; ends = omega arith }
 
-fresh-shaped : (capacity bands sensors : ℕ) → headerFits capacity bands sensors ≡ true → Shaped (freshDrive capacity bands sensors)
-unfolding freshDrive headerFits
-fresh-shaped capacity bands sensors h =
+in-range : (capacity bands sensors : ℕ) → headerFits capacity bands sensors ≡ true → InRange capacity bands sensors
+unfolding headerFits
+in-range capacity bands sensors h =
     let h1 = and-right (leb 1 capacity) _ h in
     let h2 = and-right (leb capacity 281474976710656) _ h1 in
     let h3 = and-right (leb 1 bands) _ h2 in
     record {
       some-blocks = leb-true 1 capacity (and-left _ _ h);
-      blocks = leb-true capacity 281474976710656 (and-left _ _ h1);
+      few-blocks = leb-true capacity 281474976710656 (and-left _ _ h1);
       some-bands = leb-true 1 bands (and-left _ _ h2);
-      bands = leb-true bands 16 (and-left _ _ h3);
+      few-bands = leb-true bands 16 (and-left _ _ h3);
       few-sensors = leb-true sensors 16 (and-right (leb bands 16) (leb sensors 16) h3);
-      rows = fresh-table RowFits freshRow bands fresh-fits;
-      spans = fresh-table (Within capacity) noSpan bands (fresh-within capacity);
-      apart = fresh-apart bands;
-      sensors = fresh-table Sound freshSensor sensors fresh-sound;
     }
+
+fresh-shaped : (capacity bands sensors : ℕ) → headerFits capacity bands sensors ≡ true → Shaped (freshDrive capacity bands sensors)
+unfolding freshDrive
+fresh-shaped capacity bands sensors h = record {
+  header = in-range capacity bands sensors h;
+  rows = fresh-table RowFits freshRow bands fresh-fits;
+  spans = fresh-table (Within capacity) noSpan bands (fresh-within capacity);
+  apart = fresh-apart bands;
+  sensors = fresh-table Sound freshSensor sensors fresh-sound;
+}
 
 pub fresh-reached : (capacity bands sensors : ℕ) → headerFits capacity bands sensors ≡ true → Reached (freshDrive capacity bands sensors)
 fresh-reached capacity bands sensors h =

@@ -24,42 +24,52 @@ pub record Table {A : Type 0} (Good : A → Type 0) (fresh : A) (count : ℕ) (l
   pub sixteen : length l ≡ 16
   -- what the header does not count is as in the fresh drive
   pub unused : (i : ℕ) → count ≤ i → getD l i fresh ≡ fresh
+  -- and every one of the sixteen is as it should be
   pub each : (i : ℕ) → Good (getD l i fresh)
 
--- An expression as it is stored: "its expression is the stored list of elements", and the cells past the count are blank.
+-- An expression as a row holds it.
 pub record Stored (x : Expression) : Type 0 where
+  -- "its expression is the stored list of elements"
   pub list : List Element
+  -- the list, and blank cells after it
   pub same : x ≡ expressionOf list
   -- "0 to 32 elements"
   pub few : length list ≤ 32
-  -- rows of "four row bytes", and operators "00 AND, 01 OR or 02 NOT"
+  -- references with "four row bytes", and the operators "00 AND, 01 OR or 02 NOT"
   pub fit : AllFit list
 
 pub record RowFits (row : Row) : Type 0 where
   -- "LockOnReset (a set as bits: .. 0 to 7)"
   pub «lock_on_reset» : row .«lock_on_reset» ≤ 7
+  -- "Empty or malformed is stored" too
   pub expression : Stored (row .expression)
+
+-- "a header out of range" is refused
+pub record InRange (capacity bands sensors : ℕ) : Type 0 where
+  -- "Capacity is 1 to 2^48 blocks"
+  pub some-blocks : 1 ≤ capacity
+  pub few-blocks : capacity ≤ 281474976710656
+  -- "bands 1 to 16 (band 0 is the global one)"
+  pub some-bands : 1 ≤ bands
+  pub few-bands : bands ≤ 16
+  -- "sensors 0 to 16"
+  pub few-sensors : sensors ≤ 16
 
 -- All of it but the settling.
 pub record Shaped (d : Drive) : Type 0 where
-  -- "Capacity is 1 to 2^48 blocks"
-  pub some-blocks : 1 ≤ d .capacity
-  pub blocks : d .capacity ≤ 281474976710656
-  -- "bands 1 to 16 (band 0 is the global one)"
-  pub some-bands : 1 ≤ d .«band_count»
-  pub bands : d .«band_count» ≤ 16
-  -- "sensors 0 to 16"
-  pub few-sensors : d .«sensor_count» ≤ 16
+  -- the counts and the capacity
+  pub header : InRange (d .capacity) (d .«band_count») (d .«sensor_count»)
+  -- the rows, each with its columns in their ranges
   pub rows : Table RowFits freshRow (d .«band_count») (d .rows)
-  -- no band lies "past end"
+  -- the bands, none of which goes "past end"
   pub spans : Table (Within (d .capacity)) noSpan (d .«band_count») (d .spans)
   -- no "two non-empty bands .. share a block"
   pub apart : overlapping (bandSpans (d .«band_count») (d .spans)) ≡ false
-  -- each sensor's timer, phase, level and condition agree
+  -- the sensors, each with a timer, a phase, a level and a condition that agree
   pub sensors : Table Sound freshSensor (d .«sensor_count») (d .sensors)
 
 pub record Reached (d : Drive) : Type 0 where
-  -- "Settling, after every event and tick": settling the bands once more changes nothing
+  -- "Settling, after every event and tick": to settle the bands once more changes nothing
   pub settled : settleOf d ≡ d
   pub shaped : Shaped d
 
@@ -77,7 +87,7 @@ abbrev pub AllFields : List Event → Type 0
 AllFields [] = Unit {0}
 AllFields (e ∷ es) = Fields e × AllFields es
 
--- Two drives of one header.
+-- The first drive has the capacity and the counts of the second.
 pub record SameHeader (d e : Drive) : Type 0 where
   pub capacity : d .capacity ≡ e .capacity
   pub «band_count» : d .«band_count» ≡ e .«band_count»

@@ -18,8 +18,8 @@ use Rattle.token_reader.specs.Read.{readTokens, elements}
 use Rattle.token_writer.specs.Write.{bytesOf}
 use Rattle.band.specs.declared.BandColumns.{BandColumns}
 use Rattle.drive.specs.declared.Drive.{Drive}
-use Rattle.drive.specs.State.{freshDrive, conditionsOf, rowAt}
-use Rattle.drive.specs.Events.{Event, reading, elapse, sensorSet, bandSet, geometry, transfer, answerOf, stepOf, stopsOf, runOf}
+use Rattle.drive.specs.State.{freshDrive, rowAt}
+use Rattle.drive.specs.Events.{reading, elapse, sensorSet, bandSet, geometry, transfer, answerOf, stepOf, stopsOf, runOf}
 
 abbrev pub row : ℕ → Element
 row n = element (Reference n)
@@ -99,6 +99,8 @@ pub record Starred : Type 0 where
   pub elapse-2 : getD (stepOf waiting (elapse 2) .sensors) 0 freshSensor .condition ≡ false
   pub elapse-3 : getD (stepOf waiting (elapse 3) .sensors) 0 freshSensor .condition ≡ true
   -- "Timers 3 and 3, elapse 3: 1 stop."
+  pub first-timer : getD (waiting .sensors) 0 freshSensor .timer ≡ 3
+  pub second-timer : getD (waiting .sensors) 1 freshSensor .timer ≡ 3
   pub one-stop : stopsOf waiting (elapse 3) ≡ 1
   -- "Capacity 1,000: start 1,000 length 0 done; start 1,000 length 1 past end.": a geometry, and a transfer of either direction
   pub place-at-end : answerOf small (geometry 1 1000 0) ≡ 0
