@@ -87,10 +87,10 @@ either-stored : (b : Bool) (new old : Expression) → Stored new → Stored old 
 either-stored true new old n o = n
 either-stored false new old n o = o
 
--- LockOnReset after a Set that fits
-lock-fits : (b : Bool) (new old : ℕ) → within 7 b new ≡ true → old ≤ 7 → cond b new old ≤ 7
-lock-fits true new old e h = leb-true new 7 e
-lock-fits false new old e h = h
+-- a column after a Set that fits
+either-within : (b : Bool) (most new old : ℕ) → old ≤ most → within most b new ≡ true → cond b new old ≤ most
+either-within true most new old h e = leb-true new most e
+either-within false most new old h e = h
 
 -- the last of six tests that hold together
 sixth : (a b c d e f : Bool) → (a && (b && (c && (d && (e && f))))) ≡ true → f ≡ true
@@ -114,7 +114,7 @@ formed-fits : (c : BandColumns) (tokens : List ℕ) → columnsFit c ≡ true �
     → RowFits (formedFrom c tokens row)
 unfolding formedRow
 formed-fits c tokens e k row r = record {
-  «lock_on_reset» = lock-fits (named 16 (c .mask)) (c .«lock_on_reset») (row .«lock_on_reset») (lock-within c e) (r .«lock_on_reset»);
+  «lock_on_reset» = either-within (named 16 (c .mask)) _ (c .«lock_on_reset») (row .«lock_on_reset») (r .«lock_on_reset») (lock-within c e);
   expression =
       either-stored (named 32 (c .mask)) (expressionIn (readTokens tokens)) (row .expression) (read-stored tokens (readTokens tokens) k refl)
       (r .expression);

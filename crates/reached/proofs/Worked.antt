@@ -121,9 +121,13 @@ module _ (level : Bool) (s : Sensor) (on : isEnabled (s .phase) ≡ true) (turns
   three-new : ticks sensorTick 3 (turnedTo level s) .condition ≡ level
   three-new = ap (λ (x : Sensor). ticks sensorTick 3 x .condition) three-ticks ∙ after-three level s
 
--- The cases with numbers in them compute. The line names what they go through: tokens, values, Sets, sensors, the drive and its geometry.
+-- The cases with numbers in them compute, through these definitions: tokens and values, rows, sensors, geometry, and the drive.
 pub starred : Starred
-unfolding bodyOf readTokens readList readElements isEnd partIn startsWith valueOf evaluate bandColumnsFit formedRow freshRow settleRow columnsFit setOf storedOf switchedOf enableOf readingOf judgeOf levelRule turnedTo sensorStep moveOf sensorTick freshSensor anyBlock noSpan freshDrive settleOf tickOf stopNext any ticks stops answerOf actOf stepOf stopsOf runOf
+unfolding bodyOf readTokens readList readElements isEnd partIn startsWith valueOf evaluate
+    bandColumnsFit formedRow freshRow settleRow
+    columnsFit setOf storedOf switchedOf enableOf readingOf judgeOf levelRule turnedTo sensorStep moveOf sensorTick freshSensor
+    anyBlock noSpan
+    freshDrive settleOf tickOf stopNext any ticks stops answerOf actOf stepOf stopsOf runOf
 starred = record {
   takes-74 = refl;
   empty-reads = refl;
