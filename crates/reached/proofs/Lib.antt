@@ -1,0 +1,4 @@
+pub mod Tables
+pub mod Headers
+pub mod Reaching
+pub mod Worked

@@ -1,0 +1,255 @@
+-- Every drive that events reach: the fresh one of a header in range, and what each event makes of one.
+use mathlib.Core.Path.{_≡_, refl, ap}
+use Prim.Native.Nat.{ℕ, zero, suc, _≤_, _<_}
+use native.Mathlib.Omega.{arith}
+use mathlib.Core.Bool.{Bool, true, false, not, cond, _&&_}
+use mathlib.Core.List.{List, [], _∷_, map}
+use lib.Dec.{eqb, leb, ltb}
+use lib.ListN.{length, getD, replicate}
+use borrow.Author.Tests.{leb-true, eqb-true, not-false}
+use Rattle.base.specs.Columns.{named, within}
+use Rattle.base.specs.Rows.{isRow}
+use Rattle.base.proofs.Cases.{and-left, and-right}
+use Rattle.base.proofs.Rows.{row-is}
+use Rattle.base.proofs.Jumps.{ticks-keep}
+use Rattle.sensor.specs.declared.single.Sensor.{Sensor}
+use Rattle.sensor.specs.Single.{freshSensor, readingOf, powerCycleOf}
+use Rattle.sensor.specs.Single.{tickOf as sensorTick}
+use Rattle.sensor.specs.Columns.{setOf}
+use Rattle.sensor.specs.Sound.{Sound}
+use Rattle.sensor.proofs.Soundness.{fresh-sound, tick-sound, reading-sound, power-cycle-sound, set-sound}
+use Rattle.sensor.proofs.Motion.{fresh-tick, fresh-power-cycle}
+use Rattle.expression.specs.declared.Expression.{Expression}
+use Rattle.token_reader.specs.Format.{Bytes}
+use Rattle.token_reader.specs.Read.{Outcome, elements, refusal, readTokens, expressionIn}
+use Rattle.token_reader.proofs.Fits.{read-fits}
+use Rattle.band.specs.declared.Row.{Row}
+use Rattle.band.specs.declared.BandColumns.{BandColumns}
+use Rattle.band.specs.Rows.{freshRow, withLocked, lockUnder, settleRow, inSet, resetRow}
+use Rattle.band.specs.Sets.{columnsFit, formedRow}
+use Rattle.band.proofs.Settling.{fresh-settles, fresh-reset}
+use Rattle.geometry.specs.declared.Span.{Span}
+use Rattle.geometry.specs.Blocks.{bandSpans, overlapping}
+use Rattle.geometry.specs.Events.{noSpan, Within}
+use Rattle.geometry.proofs.Ranges.{neither}
+use Rattle.geometry.proofs.Arms.{end-up-to}
+use Rattle.geometry.proofs.Invariant.{fresh-apart}
+use Rattle.drive.specs.declared.Drive.{Drive}
+use Rattle.drive.specs.State.{headerFits, freshDrive, withRows, withSpans, withSensors, conditionsOf, settleOf, fallOf, tickOf}
+use Rattle.drive.specs.Events.{
+  Event,
+  reading,
+  elapse,
+  reset,
+  sensorSet,
+  bandSet,
+  geometry,
+  transfer,
+  refusals,
+  lowest,
+  answerOf,
+  formedFrom,
+  actOf,
+  stepOf,
+  runOf,
+}
+use Rattle.drive.proofs.Settling.{settle-twice}
+use Rattle.reached.specs.Reached.{Table, Stored, RowFits, InRange, Shaped, Reached, Fields, AllFields}
+use Rattle.reached.proofs.Tables.{fresh-table, map-table, modify-table, set-table}
+
+-- ---- one row
+
+fresh-fits : RowFits freshRow
+unfolding freshRow
+fresh-fits = record { «lock_on_reset» = omega arith; expression = record { list = []; same = refl; few = omega arith; fit = tt } }
+
+locked-fits : (read write : Bool) (row : Row) → RowFits row → RowFits (withLocked read write row)
+locked-fits read write row r = record { «lock_on_reset» = r .«lock_on_reset»; expression = r .expression }
+
+settle-fits : (conditions : List Bool) (row : Row) → RowFits row → RowFits (settleRow conditions row)
+unfolding settleRow
+settle-fits conditions row r = locked-fits _ _ row r
+
+reset-fits : (type : ℕ) (row : Row) → RowFits row → RowFits (resetRow type row)
+unfolding resetRow
+reset-fits type row r = go (inSet (row .«lock_on_reset») type)
+  where
+    go : (b : Bool) → RowFits (cond b (lockUnder true row) row)
+    go true = locked-fits _ _ row r
+    go false = r
+
+-- what a Set's bytes read to, a refusal too
+read-stored : (tokens : List ℕ) (o : Outcome) → Bytes tokens → readTokens tokens ≡ o → Stored (expressionIn o)
+read-stored tokens (elements es) k e = let f = read-fits tokens es k e in record { list = es; same = refl; few = f .0; fit = f .1 }
+read-stored tokens (refusal n) k e = record { list = []; same = refl; few = omega arith; fit = tt }
+
+either-stored : (b : Bool) (new old : Expression) → Stored new → Stored old → Stored (cond b new old)
+either-stored true new old n o = n
+either-stored false new old n o = o
+
+-- a column after a Set that fits
+either-within : (b : Bool) (most new old : ℕ) → old ≤ most → within most b new ≡ true → cond b new old ≤ most
+either-within true most new old h e = leb-true new most e
+either-within false most new old h e = h
+
+-- the last of six tests that hold together
+sixth : (a b c d e f : Bool) → (a && (b && (c && (d && (e && f))))) ≡ true → f ≡ true
+sixth a b c d e f t =
+    and-right e f
+    (and-right d (e && f) (and-right c (d && (e && f)) (and-right b (c && (d && (e && f))) (and-right a (b && (c && (d && (e && f)))) t))))
+
+lock-within : (c : BandColumns) → columnsFit c ≡ true → within 7 (named 16 (c .mask)) (c .«lock_on_reset») ≡ true
+unfolding columnsFit
+lock-within c t =
+    sixth
+    (ltb (c .mask) 64)
+    (within 1 (named 1 (c .mask)) (c .«read_lock_enabled»))
+    (within 1 (named 2 (c .mask)) (c .«write_lock_enabled»))
+    (within 1 (named 4 (c .mask)) (c .«read_locked»))
+    (within 1 (named 8 (c .mask)) (c .«write_locked»))
+    (within 7 (named 16 (c .mask)) (c .«lock_on_reset»))
+    t
+
+formed-fits : (c : BandColumns) (tokens : List ℕ) → columnsFit c ≡ true → Bytes tokens → (row : Row) → RowFits row
+    → RowFits (formedFrom c tokens row)
+unfolding formedRow
+formed-fits c tokens e k row r = record {
+  «lock_on_reset» = either-within (named 16 (c .mask)) _ (c .«lock_on_reset») (row .«lock_on_reset») (r .«lock_on_reset») (lock-within c e);
+  expression =
+      either-stored (named 32 (c .mask)) (expressionIn (readTokens tokens)) (row .expression) (read-stored tokens (readTokens tokens) k refl)
+      (r .expression);
+}
+
+-- ---- other rows, spans or sensors
+
+module _ (d : Drive) (r : Shaped d) where
+  with-rows : (l : List Row) → Table RowFits freshRow (d .«band_count») l → Shaped (withRows l d)
+  with-rows l t = record { header = r .header; rows = t; spans = r .spans; apart = r .apart; sensors = r .sensors }
+
+  with-spans : (l : List Span) → Table (Within (d .capacity)) noSpan (d .«band_count») l → overlapping (bandSpans (d .«band_count») l) ≡ false
+      → Shaped (withSpans l d)
+  with-spans l t w = record { header = r .header; rows = r .rows; spans = t; apart = w; sensors = r .sensors }
+
+  with-sensors : (l : List Sensor) → Table Sound freshSensor (d .«sensor_count») l → Shaped (withSensors l d)
+  with-sensors l t = record { header = r .header; rows = r .rows; spans = r .spans; apart = r .apart; sensors = t }
+
+  settle-shaped : Shaped (settleOf d)
+  unfolding settleOf
+  settle-shaped =
+      with-rows _
+      (map-table RowFits freshRow (settleRow (conditionsOf d)) (settle-fits (conditionsOf d)) _ _ (r .rows) (fresh-settles (conditionsOf d)))
+
+  fall-shaped : Shaped (fallOf d)
+  fall-shaped = with-sensors _ (map-table Sound freshSensor sensorTick tick-sound _ _ (r .sensors) fresh-tick)
+
+tick-shaped : (d : Drive) → Shaped d → Shaped (tickOf d)
+unfolding tickOf
+tick-shaped d r = settle-shaped (fallOf d) (fall-shaped d r)
+
+-- ---- what an event that is answered 0 does
+
+-- of the table of refusals no row applies where the answer is 0
+none-applies : (n : ℕ) (l : List Bool) → lowest (suc n) l ≡ 0 → (i : ℕ) → getD l i false ≡ false
+none-applies n [] e i = refl
+none-applies n (true ∷ l) e i = absurd (omega arith)
+none-applies n (false ∷ l) e zero = refl
+none-applies n (false ∷ l) e (suc i) = none-applies (suc n) l e i
+
+pub granted : (d : Drive) (e : Event) → answerOf d e ≡ 0 → (i : ℕ) → getD (refusals d e) i false ≡ false
+unfolding answerOf
+granted d e q = none-applies 0 (refusals d e) q
+
+counted : (count i : ℕ) → not (isRow count i) ≡ false → (i < count) × (i < 16)
+counted count i e = row-is count i (not-false (isRow count i) e)
+
+powered : (b : Bool) (count : ℕ) (l : List Sensor) → Table Sound freshSensor count l → Table Sound freshSensor count (cond b (map powerCycleOf l) l)
+powered true count l t = map-table Sound freshSensor powerCycleOf power-cycle-sound count l t fresh-power-cycle
+powered false count l t = t
+
+act-shaped : (d : Drive) (e : Event) → Fields e → ((i : ℕ) → getD (refusals d e) i false ≡ false) → Shaped d → Shaped (actOf d e)
+unfolding actOf
+act-shaped d (reading s v) f q r =
+    with-sensors d r _ (modify-table Sound freshSensor (readingOf v) (reading-sound v) _ _ (r .sensors) s (counted _ s (q 0) .0))
+act-shaped d (elapse n) f q r = ticks-keep tickOf Shaped tick-shaped n d r
+act-shaped d (reset t) f q r =
+    with-sensors _ (with-rows d r _ (map-table RowFits freshRow (resetRow t) (reset-fits t) _ _ (r .rows) (fresh-reset t))) _
+    (powered (eqb t 0) _ _ (r .sensors))
+act-shaped d (sensorSet s c) f q r =
+    with-sensors d r _ (modify-table Sound freshSensor (setOf c) (set-sound c) _ _ (r .sensors) s (counted _ s (q 0) .0))
+act-shaped d (bandSet b c tokens) f q r =
+    let fits : columnsFit c ≡ true = not-false (columnsFit c) (neither (not (columnsFit c)) (ltb 1024 (length tokens)) (q 1) .0) in
+    with-rows d r _
+    (modify-table RowFits freshRow (formedFrom c tokens) (formed-fits c tokens fits f) _ _ (r .rows) b (counted _ b (q 0) .0))
+act-shaped d (geometry b start n) f q r =
+    let e = end-up-to (d .capacity) start n (q 5) in
+    let k = counted (d .«band_count») b (q 0) in
+    with-spans d r _
+    (set-table (Within (d .capacity)) noSpan (record { start = start; length = n }) _ _ b
+    (record { begins = e .0; ends = omega arith })
+    (k .0) (k .1) (r .spans))
+    (q 6)
+act-shaped d (transfer w start n) f q r = r
+
+-- ---- the theorems
+
+repeated-settles : (n : ℕ) (conditions : List Bool) → map (settleRow conditions) (replicate n freshRow) ≡ replicate n freshRow
+repeated-settles zero conditions = refl
+repeated-settles (suc n) conditions = λ i. fresh-settles conditions i ∷ repeated-settles n conditions i
+
+fresh-settled : (capacity bands sensors : ℕ) → settleOf (freshDrive capacity bands sensors) ≡ freshDrive capacity bands sensors
+unfolding settleOf freshDrive
+fresh-settled capacity bands sensors =
+    ap (λ (l : List Row). withRows l (freshDrive capacity bands sensors)) (repeated-settles 16 (conditionsOf (freshDrive capacity bands sensors)))
+
+fresh-within : (capacity : ℕ) → Within capacity noSpan
+unfolding noSpan
+fresh-within capacity = record { begins = omega arith; ends = omega arith }
+
+in-range : (capacity bands sensors : ℕ) → headerFits capacity bands sensors ≡ true → InRange capacity bands sensors
+unfolding headerFits
+in-range capacity bands sensors h =
+    let h1 = and-right (leb 1 capacity) _ h in
+    let h2 = and-right (leb capacity 281474976710656) _ h1 in
+    let h3 = and-right (leb 1 bands) _ h2 in
+    record {
+      some-blocks = leb-true 1 capacity (and-left _ _ h);
+      few-blocks = leb-true capacity 281474976710656 (and-left _ _ h1);
+      some-bands = leb-true 1 bands (and-left _ _ h2);
+      few-bands = leb-true bands 16 (and-left _ _ h3);
+      few-sensors = leb-true sensors 16 (and-right (leb bands 16) (leb sensors 16) h3);
+    }
+
+fresh-shaped : (capacity bands sensors : ℕ) → headerFits capacity bands sensors ≡ true → Shaped (freshDrive capacity bands sensors)
+unfolding freshDrive
+fresh-shaped capacity bands sensors h = record {
+  header = in-range capacity bands sensors h;
+  rows = fresh-table RowFits freshRow bands fresh-fits;
+  spans = fresh-table (Within capacity) noSpan bands (fresh-within capacity);
+  apart = fresh-apart bands;
+  sensors = fresh-table Sound freshSensor sensors fresh-sound;
+}
+
+pub fresh-reached : (capacity bands sensors : ℕ) → headerFits capacity bands sensors ≡ true → Reached (freshDrive capacity bands sensors)
+fresh-reached capacity bands sensors h =
+    record { settled = fresh-settled capacity bands sensors; shaped = fresh-shaped capacity bands sensors h }
+
+pub step-reached : (d : Drive) (e : Event) → Fields e → Reached d → Reached (stepOf d e)
+unfolding stepOf
+step-reached d e f r = go (eqb (answerOf d e) 0) refl
+  where
+    go : (done : Bool) → eqb (answerOf d e) 0 ≡ done → Reached (cond done (settleOf (actOf d e)) d)
+    go true q = record {
+      settled = settle-twice (actOf d e);
+      shaped = settle-shaped (actOf d e) (act-shaped d e f (granted d e (eqb-true (answerOf d e) 0 q)) (r .shaped));
+    }
+    go false q = r
+
+-- from any drive that is reached, and so from the fresh one of a header in range
+pub run-on : (d : Drive) (es : List Event) → AllFields es → Reached d → Reached (runOf d es)
+unfolding runOf
+run-on d [] f r = r
+run-on d (e ∷ es) f r = run-on (stepOf d e) es (f .1) (step-reached d e (f .0) r)
+
+pub run-reached : (capacity bands sensors : ℕ) (es : List Event) → headerFits capacity bands sensors ≡ true → AllFields es
+    → Reached (runOf (freshDrive capacity bands sensors) es)
+run-reached capacity bands sensors es h f = run-on (freshDrive capacity bands sensors) es f (fresh-reached capacity bands sensors h)

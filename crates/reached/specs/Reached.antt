@@ -1,0 +1,94 @@
+-- What holds of every drive that events reach from the fresh drive of a header in range.
+use Prim.Native.Nat.{ℕ, _≤_}
+use mathlib.Core.Path.{_≡_}
+use mathlib.Core.Bool.{false}
+use mathlib.Core.List.{List, [], _∷_}
+use lib.ListN.{length, getD}
+use Rattle.sensor.specs.Single.{freshSensor}
+use Rattle.sensor.specs.Sound.{Sound}
+use Rattle.expression.specs.declared.Element.{Element}
+use Rattle.expression.specs.declared.Expression.{Expression}
+use Rattle.expression.specs.Elements.{expressionOf, AllFit}
+use Rattle.token_reader.specs.Format.{Bytes}
+use Rattle.band.specs.declared.Row.{Row}
+use Rattle.band.specs.Rows.{freshRow}
+use Rattle.geometry.specs.Blocks.{bandSpans, overlapping}
+use Rattle.geometry.specs.Events.{noSpan, Within}
+use Rattle.drive.specs.declared.Drive.{Drive}
+use Rattle.drive.specs.State.{settleOf}
+use Rattle.drive.specs.Events.{Event, reading, elapse, reset, sensorSet, bandSet, geometry, transfer}
+
+-- An array of a drive, of which the header counts the first ones.
+pub record Table {A : Type 0} (Good : A → Type 0) (fresh : A) (count : ℕ) (l : List A) : Type 0 where
+  -- "A drive is 16 rows, .. whatever the header counts."
+  pub sixteen : length l ≡ 16
+  -- what the header does not count is as in the fresh drive
+  pub unused : (i : ℕ) → count ≤ i → getD l i fresh ≡ fresh
+  -- and every one of the sixteen is as it should be
+  pub each : (i : ℕ) → Good (getD l i fresh)
+
+-- An expression as a row holds it.
+pub record Stored (x : Expression) : Type 0 where
+  -- "its expression is the stored list of elements"
+  pub list : List Element
+  -- the list, and blank cells after it
+  pub same : x ≡ expressionOf list
+  -- "0 to 32 elements"
+  pub few : length list ≤ 32
+  -- references with "four row bytes", and the operators "00 AND, 01 OR or 02 NOT"
+  pub fit : AllFit list
+
+pub record RowFits (row : Row) : Type 0 where
+  -- "LockOnReset (a set as bits: .. 0 to 7)"
+  pub «lock_on_reset» : row .«lock_on_reset» ≤ 7
+  -- "Empty or malformed is stored" too
+  pub expression : Stored (row .expression)
+
+-- "a header out of range" is refused
+pub record InRange (capacity bands sensors : ℕ) : Type 0 where
+  -- "Capacity is 1 to 2^48 blocks"
+  pub some-blocks : 1 ≤ capacity
+  pub few-blocks : capacity ≤ 281474976710656
+  -- "bands 1 to 16 (band 0 is the global one)"
+  pub some-bands : 1 ≤ bands
+  pub few-bands : bands ≤ 16
+  -- "sensors 0 to 16"
+  pub few-sensors : sensors ≤ 16
+
+-- All of it but the settling.
+pub record Shaped (d : Drive) : Type 0 where
+  -- the counts and the capacity
+  pub header : InRange (d .capacity) (d .«band_count») (d .«sensor_count»)
+  -- the rows, each with its columns in their ranges
+  pub rows : Table RowFits freshRow (d .«band_count») (d .rows)
+  -- the bands, none of which goes "past end"
+  pub spans : Table (Within (d .capacity)) noSpan (d .«band_count») (d .spans)
+  -- no "two non-empty bands .. share a block"
+  pub apart : overlapping (bandSpans (d .«band_count») (d .spans)) ≡ false
+  -- the sensors, each with a timer, a phase, a level and a condition that agree
+  pub sensors : Table Sound freshSensor (d .«sensor_count») (d .sensors)
+
+pub record Reached (d : Drive) : Type 0 where
+  -- "Settling, after every event and tick": to settle the bands once more changes nothing
+  pub settled : settleOf d ≡ d
+  pub shaped : Shaped d
+
+-- The tokens of a band Set are bytes; the fields of the other events are any numbers.
+abbrev pub Fields : Event → Type 0
+Fields (reading s v) = Unit {0}
+Fields (elapse n) = Unit {0}
+Fields (reset t) = Unit {0}
+Fields (sensorSet s c) = Unit {0}
+Fields (bandSet b c tokens) = Bytes tokens
+Fields (geometry b start n) = Unit {0}
+Fields (transfer w start n) = Unit {0}
+
+abbrev pub AllFields : List Event → Type 0
+AllFields [] = Unit {0}
+AllFields (e ∷ es) = Fields e × AllFields es
+
+-- The first drive has the capacity and the counts of the second.
+pub record SameHeader (d e : Drive) : Type 0 where
+  pub capacity : d .capacity ≡ e .capacity
+  pub «band_count» : d .«band_count» ≡ e .«band_count»
+  pub «sensor_count» : d .«sensor_count» ≡ e .«sensor_count»

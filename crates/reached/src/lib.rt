@@ -1,0 +1,1 @@
+// Theorems about every drive that events reach. There is no code here.
