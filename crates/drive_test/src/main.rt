@@ -258,22 +258,45 @@ impl Run {
         self.after(events::set_band(drive, band, columns, tokens))
     }
 
+    // A Set that does not name the expression.
+    fn set_locks(
+        self,
+        band: u64,
+        mask: u64,
+        read_lock_enabled: u64,
+        write_lock_enabled: u64,
+        read_locked: u64,
+        write_locked: u64,
+        lock_on_reset: u64,
+    ) -> Run {
+        self.set_band(
+            band,
+            mask,
+            read_lock_enabled,
+            write_lock_enabled,
+            read_locked,
+            write_locked,
+            lock_on_reset,
+            b"",
+        )
+    }
+
     // Both lock columns of the read side, or of the write side.
     fn lock_read(self, band: u64) -> Run {
-        self.set_band(band, 5, 1, 0, 1, 0, 0, b"")
+        self.set_locks(band, 5, 1, 0, 1, 0, 0)
     }
 
     fn lock_write(self, band: u64) -> Run {
-        self.set_band(band, 10, 0, 1, 0, 1, 0, b"")
+        self.set_locks(band, 10, 0, 1, 0, 1, 0)
     }
 
     // Names a side's Locked as 0.
     fn unlock_read(self, band: u64) -> Run {
-        self.set_band(band, 4, 0, 0, 0, 0, 0, b"")
+        self.set_locks(band, 4, 0, 0, 0, 0, 0)
     }
 
     fn unlock_write(self, band: u64) -> Run {
-        self.set_band(band, 8, 0, 0, 0, 0, 0, b"")
+        self.set_locks(band, 8, 0, 0, 0, 0, 0)
     }
 
     fn set_geometry(self, band: u64, start: u64, length: u64) -> Run {
@@ -444,29 +467,29 @@ fn too_long(r: Run) -> Run {
 // Each column above its range, and at it.
 fn band_ranges() {
     let r = begin(b"band Set ranges", 1_000, 16, 0);
-    let r = r.set_band(15, 1, 2, 0, 0, 0, 0, b"");
-    let r = r.set_band(15, 2, 0, MOST, 0, 0, 0, b"");
-    let r = r.set_band(15, 4, 0, 0, 256, 0, 0, b"");
-    let r = r.set_band(15, 8, 0, 0, 0, 4_294_967_296, 0, b"");
-    let r = r.set_band(15, 16, 0, 0, 0, 0, 8, b"");
-    let r = r.set_band(15, 31, 1, 1, 1, 1, 7, b"");
+    let r = r.set_locks(15, 1, 2, 0, 0, 0, 0);
+    let r = r.set_locks(15, 2, 0, MOST, 0, 0, 0);
+    let r = r.set_locks(15, 4, 0, 0, 256, 0, 0);
+    let r = r.set_locks(15, 8, 0, 0, 0, 4_294_967_296, 0);
+    let r = r.set_locks(15, 16, 0, 0, 0, 0, 8);
+    let r = r.set_locks(15, 31, 1, 1, 1, 1, 7);
     let r = band_numbers(r);
     r.end();
 }
 
 fn band_numbers(r: Run) -> Run {
     let r = r.set_band(15, 0, MOST, MOST, MOST, MOST, MOST, b"\xF0");
-    let r = r.set_band(16, 0, 0, 0, 0, 0, 0, b"");
-    let r = r.set_band(MOST, 31, MOST, MOST, MOST, MOST, MOST, b"");
-    r.set_band(4_294_967_296, 4, 0, 0, 1, 0, 0, b"")
+    let r = r.set_locks(16, 0, 0, 0, 0, 0, 0);
+    let r = r.set_locks(MOST, 31, MOST, MOST, MOST, MOST, MOST);
+    r.set_locks(4_294_967_296, 4, 0, 0, 1, 0, 0)
 }
 
 // What no script holds: unknown mask bits, and more than 1,024 token bytes, named or not.
 fn outside_a_script() {
     let r = begin(b"band Set outside a script", 1_000, 1, 0);
-    let r = r.set_band(0, 64, 0, 0, 0, 0, 0, b"");
+    let r = r.set_locks(0, 64, 0, 0, 0, 0, 0);
     let r = r.set_band(0, MOST, 1, 1, 1, 1, 7, &NEVER);
-    let r = r.set_band(1, 64, 0, 0, 0, 0, 0, b"");
+    let r = r.set_locks(1, 64, 0, 0, 0, 0, 0);
     let r = more_bytes(r);
     let r = most_bytes(r);
     r.end();
@@ -595,8 +618,8 @@ fn held() {
 
 // Unlocks the side as it disables it, and enables the other alone.
 fn held_next(r: Run) -> Run {
-    let r = r.set_band(1, 5, 0, 0, 0, 0, 0, b"");
-    let r = r.set_band(1, 2, 0, 1, 0, 0, 0, b"");
+    let r = r.set_locks(1, 5, 0, 0, 0, 0, 0);
+    let r = r.set_locks(1, 2, 0, 1, 0, 0, 0);
     let r = r.transfer(1, 0, 1_000);
     let r = r.set_geometry(1, 0, 1);
     let r = r.transfer(1, 0, 1_000);
@@ -629,10 +652,10 @@ fn new_expression() {
 fn new_columns() {
     let r = begin(b"the new columns", 1_000, 1, 1);
     let r = r.set_band(0, 32, 0, 0, 0, 0, 0, &ALWAYS);
-    let r = r.set_band(0, 5, 1, 0, 0, 0, 0, b"");
-    let r = r.set_band(0, 12, 0, 0, 0, 0, 0, b"");
-    let r = r.set_band(0, 9, 1, 0, 0, 0, 0, b"");
-    let r = r.set_band(0, 14, 0, 1, 0, 1, 0, b"");
+    let r = r.set_locks(0, 5, 1, 0, 0, 0, 0);
+    let r = r.set_locks(0, 12, 0, 0, 0, 0, 0);
+    let r = r.set_locks(0, 9, 1, 0, 0, 0, 0);
+    let r = r.set_locks(0, 14, 0, 1, 0, 1, 0);
     let r = r.set_band(0, 37, 0, 0, 0, 0, 0, b"\xF0\xF1\xF1");
     let r = r.set_band(0, 37, 0, 0, 0, 0, 0, &A);
     r.end();
@@ -641,10 +664,10 @@ fn new_columns() {
 // Locked on a side that is not enabled.
 fn disabled_side() {
     let r = begin(b"locked and disabled", 1_000, 1, 0);
-    let r = r.set_band(0, 12, 0, 0, 1, 1, 0, b"");
+    let r = r.set_locks(0, 12, 0, 0, 1, 1, 0);
     let r = r.transfer(0, 0, 1_000);
     let r = r.transfer(1, 0, 1_000);
-    let r = r.set_band(0, 1, 1, 0, 0, 0, 0, b"");
+    let r = r.set_locks(0, 1, 1, 0, 0, 0, 0);
     let r = r.transfer(0, 0, 1);
     let r = r.transfer(1, 0, 1);
     r.end();
@@ -653,12 +676,12 @@ fn disabled_side() {
 // Bands 1 to 5 with LockOnReset 1, 2, 4, 7 and 0 and the read side enabled; band 0 as it was fresh, with the write side enabled.
 fn reset_sets(title: &[u8]) -> Run {
     let r = begin(title, 1_000, 6, 0);
-    let r = r.set_band(0, 2, 0, 1, 0, 0, 0, b"");
-    let r = r.set_band(1, 17, 1, 0, 0, 0, 1, b"");
-    let r = r.set_band(2, 17, 1, 0, 0, 0, 2, b"");
-    let r = r.set_band(3, 17, 1, 0, 0, 0, 4, b"");
-    let r = r.set_band(4, 17, 1, 0, 0, 0, 7, b"");
-    r.set_band(5, 17, 1, 0, 0, 0, 0, b"")
+    let r = r.set_locks(0, 2, 0, 1, 0, 0, 0);
+    let r = r.set_locks(1, 17, 1, 0, 0, 0, 1);
+    let r = r.set_locks(2, 17, 1, 0, 0, 0, 2);
+    let r = r.set_locks(3, 17, 1, 0, 0, 0, 4);
+    let r = r.set_locks(4, 17, 1, 0, 0, 0, 7);
+    r.set_locks(5, 17, 1, 0, 0, 0, 0)
 }
 
 fn reset_with(title: &[u8], kind: u64) {
@@ -670,13 +693,13 @@ fn reset_with(title: &[u8], kind: u64) {
 // The sets of two types.
 fn reset_pairs() {
     let r = begin(b"resets by turns", 1_000, 4, 0);
-    let r = r.set_band(1, 19, 1, 1, 0, 0, 3, b"");
-    let r = r.set_band(2, 19, 1, 1, 0, 0, 5, b"");
-    let r = r.set_band(3, 19, 1, 1, 0, 0, 6, b"");
+    let r = r.set_locks(1, 19, 1, 1, 0, 0, 3);
+    let r = r.set_locks(2, 19, 1, 1, 0, 0, 5);
+    let r = r.set_locks(3, 19, 1, 1, 0, 0, 6);
     let r = r.reset(0);
     let r = r.transfer(0, 0, 1_000);
-    let r = r.set_band(1, 12, 0, 0, 0, 0, 0, b"");
-    let r = r.set_band(2, 8, 0, 0, 0, 0, 0, b"");
+    let r = r.set_locks(1, 12, 0, 0, 0, 0, 0);
+    let r = r.set_locks(2, 8, 0, 0, 0, 0, 0);
     let r = r.reset(1);
     r.end();
 }
@@ -711,7 +734,7 @@ fn power_cycle() {
 fn after_power_cycle() {
     let r = two_expressions(four_sensors(b"after a power cycle"));
     let r = r.reset(0);
-    let r = r.set_band(1, 12, 0, 0, 0, 0, 0, b"");
+    let r = r.set_locks(1, 12, 0, 0, 0, 0, 0);
     let r = r.unlock_read(2);
     let r = r.elapse(9);
     let r = r.reading(1, 5_000);
