@@ -1,0 +1,1014 @@
+// Runs of events on fresh drives. Each prints a title, and then the listing of document 01: a line for each event with its answer and stops,
+// and at the end the bands and the sensors. Numbers and sets of columns are as in a script; a value that a mask does not name is 0.
+use answer::Answer;
+use band::BandColumns;
+use band::Row;
+use drive::Drive;
+use drive::Kind;
+use drive::Reply;
+use sensor::Sensor;
+use sensor::SensorColumns;
+
+const MOST: u64 = 18_446_744_073_709_551_615;
+
+// Sensor 0, and the same with NOT.
+const A: [u8; 14] = *b"\xF0\xF2\xA4\x00\x00\x0C\x0E\xA4\x00\x00\x00\x00\xF3\xF1";
+
+const NOT_A: [u8; 22] = *b"\xF0\xF2\xA4\x00\x00\x0C\x0E\xA4\x00\x00\x00\x00\xF3\xF2\xA4\x00\x00\x04\x0E\x02\xF3\xF1";
+
+// Sensors 0 and 1: 0 1 NOT AND.
+const A_AND_NOT_B: [u8; 42] = *b"\xF0\xF2\xA4\x00\x00\x0C\x0E\xA4\x00\x00\x00\x00\xF3\xF2\xA4\x00\x00\x0C\x0E\xA4\x00\x00\x00\x01\xF3\
+\xF2\xA4\x00\x00\x04\x0E\x02\xF3\xF2\xA4\x00\x00\x04\x0E\x00\xF3\xF1";
+
+// Sensor 15.
+const P: [u8; 14] = *b"\xF0\xF2\xA4\x00\x00\x0C\x0E\xA4\x00\x00\x00\x0F\xF3\xF1";
+
+// NOT of row 99, which is TRUE on every drive, and no elements, which is FALSE.
+const ALWAYS: [u8; 22] = *b"\xF0\xF2\xA4\x00\x00\x0C\x0E\xA4\x00\x00\x00\x63\xF3\xF2\xA4\x00\x00\x04\x0E\x02\xF3\xF1";
+
+const NEVER: [u8; 2] = *b"\xF0\xF1";
+
+// A drive, and the number of events that it has had.
+struct Run {
+    drive: Drive,
+    events: u64,
+}
+
+fn print(text: &[u8]) {
+    io::write_all(1, text);
+}
+
+fn print_next(n: u64) {
+    print(b" ");
+    io::print_decimal(1, n);
+}
+
+fn print_bit(b: bool) {
+    if b {
+        print_next(1);
+    } else {
+        print_next(0);
+    }
+}
+
+fn print_answer(answer: Answer) {
+    print_next(answer.number() as u64);
+}
+
+fn print_event(index: u64, answer: Answer, stops: u64) {
+    print(b"e");
+    print_next(index);
+    print_answer(answer);
+    print_next(stops);
+    print(b"\n");
+}
+
+fn print_band(number: usize, row: Row, conditions: [bool; 16]) {
+    print(b"b");
+    print_next(number as u64);
+    print_bit(row.read_locked);
+    print_bit(row.write_locked);
+    print_bit(row.value(conditions));
+    print(b"\n");
+}
+
+fn print_bands(drive: Drive) {
+    let conditions = drive.conditions();
+    let rows = drive.rows;
+    for i in 0..16 {
+        if drive.band_count <= i {
+            return;
+        }
+        let row = rows[i];
+        print_band(i, row, conditions);
+    }
+}
+
+fn print_sensor(number: usize, s: Sensor) {
+    let phase = s.phase;
+    print(b"s");
+    print_next(number as u64);
+    print_bit(s.level);
+    print_next(phase.number() as u64);
+    print_bit(s.condition);
+    print_next(s.timer as u64);
+    print(b"\n");
+}
+
+fn print_sensors(drive: Drive) {
+    let all = drive.sensors;
+    for i in 0..16 {
+        if drive.sensor_count <= i {
+            return;
+        }
+        let s = all[i];
+        print_sensor(i, s);
+    }
+}
+
+// The next index; no run has a thousand events.
+fn next(index: u64) -> u64 {
+    if index < 1_000 { index + 1 } else { index }
+}
+
+// A Set that leaves the fractions, which are 0.
+fn sensor_columns(
+    mask: u64,
+    enabled: u64,
+    on_threshold: u64,
+    on_timeout: u64,
+    off_threshold: u64,
+    off_timeout: u64,
+) -> SensorColumns {
+    SensorColumns {
+        mask,
+        enabled,
+        on_threshold,
+        on_fraction: 0,
+        on_timeout,
+        off_threshold,
+        off_fraction: 0,
+        off_timeout,
+    }
+}
+
+// A Set with the same value for each column that it names.
+fn columns_alike(mask: u64, value: u64) -> SensorColumns {
+    SensorColumns {
+        mask,
+        enabled: value,
+        on_threshold: value,
+        on_fraction: value,
+        on_timeout: value,
+        off_threshold: value,
+        off_fraction: value,
+        off_timeout: value,
+    }
+}
+
+fn band_columns(
+    mask: u64,
+    read_lock_enabled: u64,
+    write_lock_enabled: u64,
+    read_locked: u64,
+    write_locked: u64,
+    lock_on_reset: u64,
+) -> BandColumns {
+    BandColumns {
+        mask,
+        read_lock_enabled,
+        write_lock_enabled,
+        read_locked,
+        write_locked,
+        lock_on_reset,
+    }
+}
+
+// The fresh drive of a header.
+fn begin(title: &[u8], capacity: u64, bands: u64, sensors: u64) -> Run {
+    print(title);
+    print(b"\n");
+    let fresh = Drive::fresh(capacity, bands, sensors);
+    let drive = fresh.drive;
+    Run {
+        drive,
+        events: 0,
+    }
+}
+
+impl Run {
+    // Prints an event's line, and goes on with its drive.
+    fn after(self, r: Reply) -> Run {
+        let answer = r.answer;
+        print_event(self.events, answer, r.stops);
+        let drive = r.drive;
+        Run {
+            drive,
+            events: next(self.events),
+        }
+    }
+
+    fn reading(self, sensor: u64, value: u64) -> Run {
+        let drive = self.drive;
+        self.after(events::reading(drive, sensor, value))
+    }
+
+    fn elapse(self, ticks: u64) -> Run {
+        let drive = self.drive;
+        self.after(events::elapse(drive, ticks))
+    }
+
+    fn reset(self, kind: u64) -> Run {
+        let drive = self.drive;
+        self.after(events::reset(drive, kind))
+    }
+
+    fn set_sensor(
+        self,
+        sensor: u64,
+        mask: u64,
+        enabled: u64,
+        on_threshold: u64,
+        on_timeout: u64,
+        off_threshold: u64,
+        off_timeout: u64,
+    ) -> Run {
+        let drive = self.drive;
+        let columns = sensor_columns(
+            mask,
+            enabled,
+            on_threshold,
+            on_timeout,
+            off_threshold,
+            off_timeout,
+        );
+        self.after(events::set_sensor(drive, sensor, columns))
+    }
+
+    fn fill_sensor(self, sensor: u64, mask: u64, value: u64) -> Run {
+        let drive = self.drive;
+        self.after(events::set_sensor(drive, sensor, columns_alike(mask, value)))
+    }
+
+    // Enables a sensor with the threshold 5 both ways.
+    fn enable(self, sensor: u64, on_timeout: u64, off_timeout: u64) -> Run {
+        self.set_sensor(sensor, 91, 1, 5, on_timeout, 5, off_timeout)
+    }
+
+    fn set_band(
+        self,
+        band: u64,
+        mask: u64,
+        read_lock_enabled: u64,
+        write_lock_enabled: u64,
+        read_locked: u64,
+        write_locked: u64,
+        lock_on_reset: u64,
+        tokens: &[u8],
+    ) -> Run {
+        let drive = self.drive;
+        let columns = band_columns(
+            mask,
+            read_lock_enabled,
+            write_lock_enabled,
+            read_locked,
+            write_locked,
+            lock_on_reset,
+        );
+        self.after(events::set_band(drive, band, columns, tokens))
+    }
+
+    // A Set that does not name the expression.
+    fn set_locks(
+        self,
+        band: u64,
+        mask: u64,
+        read_lock_enabled: u64,
+        write_lock_enabled: u64,
+        read_locked: u64,
+        write_locked: u64,
+        lock_on_reset: u64,
+    ) -> Run {
+        self.set_band(
+            band,
+            mask,
+            read_lock_enabled,
+            write_lock_enabled,
+            read_locked,
+            write_locked,
+            lock_on_reset,
+            b"",
+        )
+    }
+
+    // Both lock columns of the read side, or of the write side.
+    fn lock_read(self, band: u64) -> Run {
+        self.set_locks(band, 5, 1, 0, 1, 0, 0)
+    }
+
+    fn lock_write(self, band: u64) -> Run {
+        self.set_locks(band, 10, 0, 1, 0, 1, 0)
+    }
+
+    // Names a side's Locked as 0.
+    fn unlock_read(self, band: u64) -> Run {
+        self.set_locks(band, 4, 0, 0, 0, 0, 0)
+    }
+
+    fn unlock_write(self, band: u64) -> Run {
+        self.set_locks(band, 8, 0, 0, 0, 0, 0)
+    }
+
+    fn set_geometry(self, band: u64, start: u64, length: u64) -> Run {
+        let drive = self.drive;
+        self.after(events::set_geometry(drive, band, start, length))
+    }
+
+    fn transfer(self, direction: u64, start: u64, count: u64) -> Run {
+        let drive = self.drive;
+        self.after(events::transfer(drive, direction, start, count))
+    }
+
+    fn apply(self, kind: Kind, tokens: &[u8]) -> Run {
+        let drive = self.drive;
+        self.after(events::apply(drive, kind, tokens))
+    }
+
+    fn end(self) {
+        let drive = self.drive;
+        print_bands(drive);
+        print_sensors(drive);
+    }
+}
+
+// Document 01's script.
+fn worked() {
+    let r = begin(b"worked", 1_000, 2, 1);
+    let r = r.set_sensor(0, 27, 1, 5, 3, 5, 0);
+    let r = r.set_band(1, 33, 1, 0, 0, 0, 0, &A);
+    let r = r.set_geometry(1, 100, 50);
+    let r = r.reading(0, 5_000);
+    let r = r.elapse(5);
+    let r = r.transfer(0, 99, 2);
+    let r = r.transfer(1, 99, 2);
+    let r = r.unlock_read(1);
+    r.end();
+}
+
+// The same by apply, and then a reset.
+fn applied() {
+    let r = begin(b"applied", 1_000, 2, 1);
+    let r = r.apply(Kind::SensorSet(0, sensor_columns(27, 1, 5, 3, 5, 0)), b"");
+    let r = r.apply(Kind::BandSet(1, band_columns(33, 1, 0, 0, 0, 0)), &A);
+    let r = r.apply(Kind::Geometry(1, 100, 50), &A);
+    let r = r.apply(Kind::Reading(0, 5_000), b"");
+    let r = applied_last(r);
+    r.end();
+}
+
+fn applied_last(r: Run) -> Run {
+    let r = r.apply(Kind::Elapse(5), b"");
+    let r = r.apply(Kind::Transfer(0, 99, 2), b"");
+    let r = r.apply(Kind::Transfer(1, 99, 2), b"\xF0");
+    let r = r.apply(Kind::BandSet(1, band_columns(4, 0, 0, 0, 0, 0)), b"");
+    let r = r.apply(Kind::Reset(0), b"");
+    r.apply(Kind::BandSet(1, band_columns(4, 0, 0, 0, 0, 0)), b"")
+}
+
+// 'a AND NOT b' with timers 3 and 5.
+fn two_timers(title: &[u8]) -> Run {
+    let r = begin(title, 100, 2, 2);
+    let r = r.enable(0, 3, 0);
+    let r = r.enable(1, 5, 0);
+    let r = r.set_band(1, 33, 1, 0, 0, 0, 0, &A_AND_NOT_B);
+    let r = r.reading(0, 5_000);
+    r.reading(1, 5_000)
+}
+
+fn in_one_elapse() {
+    let r = two_timers(b"timers 3 and 5, one elapse");
+    let r = r.elapse(5);
+    r.end();
+}
+
+fn in_ticks() {
+    let r = two_timers(b"timers 3 and 5, ticks");
+    let r = r.elapse(1);
+    let r = r.elapse(1);
+    let r = r.elapse(1);
+    let r = r.elapse(1);
+    let r = r.elapse(1);
+    r.end();
+}
+
+fn before_the_second() {
+    let r = two_timers(b"timers 3 and 5, elapse 4");
+    let r = r.elapse(4);
+    let r = r.unlock_read(1);
+    r.end();
+}
+
+// Blocks 100 to 149 locked for reads, 200 to 249 for writes.
+fn two_bands(title: &[u8]) -> Run {
+    let r = begin(title, 1_000, 3, 0);
+    let r = r.set_geometry(1, 100, 50);
+    let r = r.set_geometry(2, 200, 50);
+    let r = r.lock_read(1);
+    r.lock_write(2)
+}
+
+fn reads() {
+    let r = two_bands(b"reads");
+    let r = r.transfer(0, 0, 100);
+    let r = r.transfer(0, 0, 101);
+    let r = r.transfer(0, 99, 1);
+    let r = r.transfer(0, 100, 1);
+    let r = r.transfer(0, 149, 1);
+    let r = r.transfer(0, 150, 1);
+    let r = reads_last(r);
+    r.end();
+}
+
+fn reads_last(r: Run) -> Run {
+    let r = r.transfer(0, 149, 2);
+    let r = r.transfer(0, 50, 850);
+    let r = r.transfer(0, 150, 850);
+    let r = r.transfer(0, 120, 0);
+    r.transfer(1, 0, 101)
+}
+
+fn writes() {
+    let r = two_bands(b"writes");
+    let r = r.transfer(1, 0, 200);
+    let r = r.transfer(1, 0, 201);
+    let r = r.transfer(1, 199, 1);
+    let r = r.transfer(1, 200, 1);
+    let r = r.transfer(1, 249, 1);
+    let r = r.transfer(1, 250, 1);
+    let r = r.transfer(0, 200, 50);
+    r.end();
+}
+
+// The blocks of no other band.
+fn global_locked() {
+    let r = two_bands(b"global band locked");
+    let r = r.lock_write(0);
+    let r = r.transfer(1, 99, 1);
+    let r = r.transfer(1, 100, 50);
+    let r = r.transfer(1, 100, 51);
+    let r = r.transfer(1, 999, 1);
+    let r = r.transfer(1, 1_000, 0);
+    let r = r.transfer(0, 0, 100);
+    r.end();
+}
+
+// A band under a TRUE expression, and a Set with more and more of it right.
+fn band_precedence() {
+    let r = begin(b"band Set refusals in order", 1_000, 2, 1);
+    let r = r.set_band(1, 33, 1, 0, 0, 0, 0, &ALWAYS);
+    let r = r.set_band(2, 63, 2, 2, 0, 0, 8, b"\xF0");
+    let r = r.set_band(1, 63, 2, 0, 0, 0, 0, b"\xF0");
+    let r = r.set_band(1, 36, 0, 0, 0, 0, 0, b"\xF0");
+    let r = too_long(r);
+    let r = r.unlock_read(1);
+    let r = r.set_band(1, 36, 0, 0, 0, 0, 0, &NEVER);
+    r.end();
+}
+
+// 32 operators, and then F2.
+fn too_long(r: Run) -> Run {
+    let codes = [token_writer::OPERATORS + 2; 32];
+    let mut tokens = [0; 258];
+    token_writer::write(&codes, &mut tokens);
+    tokens[257] = 0xF2;
+    r.set_band(1, 36, 0, 0, 0, 0, 0, &tokens)
+}
+
+// Each column above its range, and at it.
+fn band_ranges() {
+    let r = begin(b"band Set ranges", 1_000, 16, 0);
+    let r = r.set_locks(15, 1, 2, 0, 0, 0, 0);
+    let r = r.set_locks(15, 2, 0, MOST, 0, 0, 0);
+    let r = r.set_locks(15, 4, 0, 0, 256, 0, 0);
+    let r = r.set_locks(15, 8, 0, 0, 0, 4_294_967_296, 0);
+    let r = r.set_locks(15, 16, 0, 0, 0, 0, 8);
+    let r = r.set_locks(15, 31, 1, 1, 1, 1, 7);
+    let r = band_numbers(r);
+    r.end();
+}
+
+fn band_numbers(r: Run) -> Run {
+    let r = r.set_band(15, 0, MOST, MOST, MOST, MOST, MOST, b"\xF0");
+    let r = r.set_locks(16, 0, 0, 0, 0, 0, 0);
+    let r = r.set_locks(MOST, 31, MOST, MOST, MOST, MOST, MOST);
+    r.set_locks(4_294_967_296, 4, 0, 0, 1, 0, 0)
+}
+
+// What no script holds: unknown mask bits, and more than 1,024 token bytes, named or not.
+fn outside_a_script() {
+    let r = begin(b"band Set outside a script", 1_000, 1, 0);
+    let r = r.set_locks(0, 64, 0, 0, 0, 0, 0);
+    let r = r.set_band(0, MOST, 1, 1, 1, 1, 7, &NEVER);
+    let r = r.set_locks(1, 64, 0, 0, 0, 0, 0);
+    let r = more_bytes(r);
+    let r = most_bytes(r);
+    r.end();
+}
+
+fn more_bytes(r: Run) -> Run {
+    let tokens = [0xF0; 1_025];
+    let r = r.set_band(0, 33, 1, 0, 0, 0, 0, &tokens);
+    let r = r.set_band(0, 1, 1, 0, 0, 0, 0, &tokens);
+    let r = r.set_band(0, 0, 0, 0, 0, 0, 0, &tokens);
+    r.set_band(1, 32, 0, 0, 0, 0, 0, &tokens)
+}
+
+fn most_bytes(r: Run) -> Run {
+    let tokens = [0xF0; 1_024];
+    let r = r.set_band(0, 37, 1, 0, 1, 0, 0, &tokens);
+    r.set_band(0, 8, 0, 0, 0, 1, 0, &tokens)
+}
+
+fn sensor_refusals() {
+    let r = begin(b"sensor refusals", 1_000, 1, 2);
+    let r = r.reading(2, MOST);
+    let r = r.reading(MOST, 0);
+    let r = r.reading(1, 4_294_967_296_000);
+    let r = r.reading(1, MOST);
+    let r = r.reading(1, 4_294_967_295_999);
+    let r = sensor_sets(r);
+    let r = sensor_ranges(r);
+    r.end();
+}
+
+fn sensor_sets(r: Run) -> Run {
+    let r = r.fill_sensor(2, 127, MOST);
+    let r = r.fill_sensor(4_294_967_296, 1, 1);
+    let r = r.fill_sensor(0, 127, MOST);
+    let r = r.fill_sensor(0, 128, 0);
+    let r = r.fill_sensor(0, MOST, 0);
+    let r = r.fill_sensor(2, 128, 0);
+    r.fill_sensor(0, 0, MOST)
+}
+
+fn sensor_ranges(r: Run) -> Run {
+    let r = r.fill_sensor(0, 1, 2);
+    let r = r.fill_sensor(0, 36, 1_000);
+    let r = r.fill_sensor(0, 36, 999);
+    let r = r.fill_sensor(0, 90, 4_294_967_296);
+    let r = r.fill_sensor(0, 90, 4_294_967_295);
+    r.fill_sensor(0, 1, 1)
+}
+
+fn ranges() {
+    let r = begin(b"elapse and reset ranges", 1_000, 1, 0);
+    let r = r.elapse(4_294_967_296);
+    let r = r.elapse(MOST);
+    let r = r.elapse(4_294_967_295);
+    let r = r.reset(3);
+    let r = r.reset(MOST);
+    let r = r.reset(2);
+    r.end();
+}
+
+fn geometry_refusals() {
+    let r = begin(b"geometry refusals", 1_000, 3, 0);
+    let r = r.set_geometry(3, MOST, MOST);
+    let r = r.set_geometry(MOST, 0, 0);
+    let r = r.set_geometry(0, MOST, MOST);
+    let r = r.set_geometry(0, 0, 0);
+    let r = r.set_geometry(1, 1_000, 0);
+    let r = geometry_past_end(r);
+    let r = geometry_overlap(r);
+    r.end();
+}
+
+fn geometry_past_end(r: Run) -> Run {
+    let r = r.set_geometry(1, 1_001, 0);
+    let r = r.set_geometry(1, 1_000, 1);
+    let r = r.set_geometry(1, MOST, MOST);
+    let r = r.set_geometry(1, 1, MOST);
+    let r = r.set_geometry(1, MOST, 1);
+    let r = r.set_geometry(1, 0, 1_001);
+    r.set_geometry(1, 100, 50)
+}
+
+fn geometry_overlap(r: Run) -> Run {
+    let r = r.set_geometry(2, 120, 1_000);
+    let r = r.set_geometry(2, 149, 1);
+    let r = r.set_geometry(2, 149, 851);
+    let r = r.set_geometry(2, 150, 851);
+    r.set_geometry(2, 150, 850)
+}
+
+fn transfer_refusals() {
+    let r = begin(b"transfer refusals", 1_000, 1, 0);
+    let r = r.lock_read(0);
+    let r = r.transfer(2, MOST, MOST);
+    let r = r.transfer(MOST, 0, 0);
+    let r = r.transfer(0, 0, 1_001);
+    let r = r.transfer(0, 1_000, 1);
+    let r = r.transfer(0, 1_001, 0);
+    let r = transfer_numbers(r);
+    r.end();
+}
+
+fn transfer_numbers(r: Run) -> Run {
+    let r = r.transfer(1, MOST, 0);
+    let r = r.transfer(1, MOST, MOST);
+    let r = r.transfer(1, 1, MOST);
+    let r = r.transfer(0, 999, 1);
+    let r = r.transfer(0, 999, 0);
+    let r = r.transfer(0, 1_000, 0);
+    r.transfer(1, 0, 1_000)
+}
+
+// The read side under sensor 0.
+fn held() {
+    let r = begin(b"held", 1_000, 2, 1);
+    let r = r.enable(0, 0, 0);
+    let r = r.set_band(1, 33, 1, 0, 0, 0, 0, &A);
+    let r = r.reading(0, 5_000);
+    let r = r.unlock_read(1);
+    let r = r.unlock_write(1);
+    let r = held_next(r);
+    let r = held_last(r);
+    r.end();
+}
+
+// Unlocks the side as it disables it, and enables the other alone.
+fn held_next(r: Run) -> Run {
+    let r = r.set_locks(1, 5, 0, 0, 0, 0, 0);
+    let r = r.set_locks(1, 2, 0, 1, 0, 0, 0);
+    let r = r.transfer(1, 0, 1_000);
+    let r = r.set_geometry(1, 0, 1);
+    let r = r.transfer(1, 0, 1_000);
+    let r = r.transfer(0, 0, 1_000);
+    r.unlock_write(1)
+}
+
+// The value falls: the side stays locked until a Set unlocks it.
+fn held_last(r: Run) -> Run {
+    let r = r.reading(0, 4_999);
+    let r = r.transfer(1, 0, 1);
+    let r = r.unlock_write(1);
+    r.transfer(1, 0, 1)
+}
+
+// The expression that a Set names decides, and a refused one is not stored.
+fn new_expression() {
+    let r = begin(b"the new expression", 1_000, 1, 1);
+    let r = r.set_band(0, 35, 1, 1, 0, 0, 0, &ALWAYS);
+    let r = r.set_band(0, 36, 0, 0, 0, 0, 0, &NOT_A);
+    let r = r.set_band(0, 44, 0, 0, 0, 0, 0, &NEVER);
+    let r = r.set_band(0, 44, 0, 0, 0, 0, 0, &ALWAYS);
+    let r = r.set_band(0, 44, 0, 0, 0, 1, 0, &NOT_A);
+    let r = r.unlock_read(0);
+    let r = r.set_band(0, 44, 0, 0, 1, 0, 0, &A);
+    r.end();
+}
+
+// A side that is enabled and unlocked in one Set, by its new columns and its new expression.
+fn new_columns() {
+    let r = begin(b"the new columns", 1_000, 1, 1);
+    let r = r.set_band(0, 32, 0, 0, 0, 0, 0, &ALWAYS);
+    let r = r.set_locks(0, 5, 1, 0, 0, 0, 0);
+    let r = r.set_locks(0, 12, 0, 0, 0, 0, 0);
+    let r = r.set_locks(0, 9, 1, 0, 0, 0, 0);
+    let r = r.set_locks(0, 14, 0, 1, 0, 1, 0);
+    let r = r.set_band(0, 37, 0, 0, 0, 0, 0, b"\xF0\xF1\xF1");
+    let r = r.set_band(0, 37, 0, 0, 0, 0, 0, &A);
+    r.end();
+}
+
+// Locked on a side that is not enabled.
+fn disabled_side() {
+    let r = begin(b"locked and disabled", 1_000, 1, 0);
+    let r = r.set_locks(0, 12, 0, 0, 1, 1, 0);
+    let r = r.transfer(0, 0, 1_000);
+    let r = r.transfer(1, 0, 1_000);
+    let r = r.set_locks(0, 1, 1, 0, 0, 0, 0);
+    let r = r.transfer(0, 0, 1);
+    let r = r.transfer(1, 0, 1);
+    r.end();
+}
+
+// Bands 1 to 5 with LockOnReset 1, 2, 4, 7 and 0 and the read side enabled; band 0 as it was fresh, with the write side enabled.
+fn reset_sets(title: &[u8]) -> Run {
+    let r = begin(title, 1_000, 6, 0);
+    let r = r.set_locks(0, 2, 0, 1, 0, 0, 0);
+    let r = r.set_locks(1, 17, 1, 0, 0, 0, 1);
+    let r = r.set_locks(2, 17, 1, 0, 0, 0, 2);
+    let r = r.set_locks(3, 17, 1, 0, 0, 0, 4);
+    let r = r.set_locks(4, 17, 1, 0, 0, 0, 7);
+    r.set_locks(5, 17, 1, 0, 0, 0, 0)
+}
+
+fn reset_with(title: &[u8], kind: u64) {
+    let r = reset_sets(title);
+    let r = r.reset(kind);
+    r.end();
+}
+
+// The sets of two types.
+fn reset_pairs() {
+    let r = begin(b"resets by turns", 1_000, 4, 0);
+    let r = r.set_locks(1, 19, 1, 1, 0, 0, 3);
+    let r = r.set_locks(2, 19, 1, 1, 0, 0, 5);
+    let r = r.set_locks(3, 19, 1, 1, 0, 0, 6);
+    let r = r.reset(0);
+    let r = r.transfer(0, 0, 1_000);
+    let r = r.set_locks(1, 12, 0, 0, 0, 0, 0);
+    let r = r.set_locks(2, 8, 0, 0, 0, 0, 0);
+    let r = r.reset(1);
+    r.end();
+}
+
+// Sensors settled TRUE, waiting both ways, and disabled with level TRUE.
+fn four_sensors(title: &[u8]) -> Run {
+    let r = begin(title, 1_000, 3, 4);
+    let r = r.enable(0, 0, 0);
+    let r = r.enable(1, 7, 0);
+    let r = r.enable(2, 0, 9);
+    let r = r.reading(0, 5_000);
+    let r = r.reading(1, 5_000);
+    let r = r.reading(2, 5_000);
+    let r = r.reading(2, 4_999);
+    r.reading(3, 0)
+}
+
+// Band 1 is locked by its sensor; band 2, which no reset locks, when the power cycle makes its expression TRUE.
+fn two_expressions(r: Run) -> Run {
+    let r = r.set_band(1, 51, 1, 1, 0, 0, 0, &A);
+    let r = r.set_band(2, 51, 1, 0, 0, 0, 0, &NOT_A);
+    r.elapse(2)
+}
+
+fn power_cycle() {
+    let r = two_expressions(four_sensors(b"power cycle"));
+    let r = r.reset(0);
+    r.end();
+}
+
+// The columns are kept: the same readings and ticks again.
+fn after_power_cycle() {
+    let r = two_expressions(four_sensors(b"after a power cycle"));
+    let r = r.reset(0);
+    let r = r.set_locks(1, 12, 0, 0, 0, 0, 0);
+    let r = r.unlock_read(2);
+    let r = r.elapse(9);
+    let r = r.reading(1, 5_000);
+    let r = r.reading(2, 5_000);
+    let r = r.reading(2, 0);
+    let r = r.set_sensor(3, 1, 1, 0, 0, 0, 0);
+    r.end();
+}
+
+fn other_resets() {
+    let r = two_expressions(four_sensors(b"other resets"));
+    let r = r.reset(1);
+    let r = r.reset(2);
+    r.end();
+}
+
+// Sixteen bands, of which 1 to 15 fill the drive.
+fn tiled() {
+    let r = begin(b"sixteen bands and sensors", 1_500, 16, 16);
+    let r = r.set_geometry(1, 0, 100);
+    let r = r.set_geometry(2, 100, 100);
+    let r = r.set_geometry(3, 200, 100);
+    let r = r.set_geometry(15, 1_400, 100);
+    let r = r.set_geometry(14, 1_300, 100);
+    let r = tiles(r);
+    let r = more_tiles(r);
+    let r = tiles_moved(r);
+    let r = tiles_freed(r);
+    let r = last_sensor(r);
+    r.end();
+}
+
+fn tiles(r: Run) -> Run {
+    let r = r.set_geometry(13, 1_200, 100);
+    let r = r.set_geometry(12, 1_100, 100);
+    let r = r.set_geometry(11, 1_000, 100);
+    let r = r.set_geometry(10, 900, 100);
+    let r = r.set_geometry(4, 300, 100);
+    let r = r.set_geometry(5, 400, 100);
+    r.set_geometry(6, 500, 100)
+}
+
+// One block too far at either end, and then all that is left.
+fn more_tiles(r: Run) -> Run {
+    let r = r.set_geometry(7, 599, 100);
+    let r = r.set_geometry(7, 600, 301);
+    let r = r.set_geometry(7, 600, 100);
+    let r = r.set_geometry(9, 699, 201);
+    let r = r.set_geometry(9, 800, 100);
+    let r = r.set_geometry(8, 700, 100);
+    r.set_geometry(15, 1_399, 101)
+}
+
+// A band about another, one within another, the same place, and a part of a band's own place.
+fn tiles_moved(r: Run) -> Run {
+    let r = r.set_geometry(8, 600, 300);
+    let r = r.set_geometry(8, 0, 1_500);
+    let r = r.set_geometry(8, 640, 20);
+    let r = r.set_geometry(8, 600, 100);
+    let r = r.set_geometry(8, 700, 100);
+    let r = r.set_geometry(8, 710, 80);
+    r.set_geometry(8, 701, 99)
+}
+
+// Length 0 frees the blocks, which are then band 0's, or another band's.
+fn tiles_freed(r: Run) -> Run {
+    let r = r.set_geometry(7, 650, 0);
+    let r = r.lock_read(0);
+    let r = r.transfer(0, 0, 600);
+    let r = r.transfer(0, 0, 601);
+    let r = r.set_geometry(8, 600, 200);
+    let r = r.transfer(0, 0, 1_500);
+    r.set_geometry(7, 799, 1)
+}
+
+// Sensor 15 locks band 15.
+fn last_sensor(r: Run) -> Run {
+    let r = r.set_band(15, 34, 0, 1, 0, 0, 0, &P);
+    let r = r.enable(15, 0, 0);
+    let r = r.transfer(1, 0, 1_500);
+    let r = r.reading(15, 5_000);
+    let r = r.transfer(1, 0, 1_400);
+    r.transfer(1, 0, 1_401)
+}
+
+// Timers that end at the last tick and the one before it.
+fn longest_elapse() {
+    let r = begin(b"longest elapse", 100, 2, 2);
+    let r = r.enable(0, 4_294_967_294, 0);
+    let r = r.enable(1, 4_294_967_295, 0);
+    let r = r.set_band(1, 33, 1, 0, 0, 0, 0, &A_AND_NOT_B);
+    let r = r.reading(0, 5_000);
+    let r = r.reading(1, 5_000);
+    let r = r.elapse(4_294_967_296);
+    let r = r.elapse(0);
+    let r = r.elapse(4_294_967_295);
+    r.end();
+}
+
+// The same less one tick, and an off-timeout that begins then.
+fn long_elapses() {
+    let r = begin(b"long elapses", 100, 2, 2);
+    let r = r.enable(0, 4_294_967_294, 4_294_967_295);
+    let r = r.enable(1, 4_294_967_295, 0);
+    let r = r.reading(0, 5_000);
+    let r = r.reading(1, 5_000);
+    let r = r.elapse(4_294_967_294);
+    let r = r.reading(0, 0);
+    let r = r.elapse(4_294_967_294);
+    r.end();
+}
+
+// Starts a timer of a fresh sensor, whose level any reading turns TRUE.
+fn timer(r: Run, sensor: u64, timeout: u64) -> Run {
+    let r = r.set_sensor(sensor, 9, 1, 0, timeout, 0, 0);
+    r.reading(sensor, 0)
+}
+
+fn low_timers(r: Run) -> Run {
+    let r = timer(r, 0, 9);
+    let r = timer(r, 1, 3);
+    let r = timer(r, 2, 27);
+    let r = timer(r, 3, 81);
+    let r = timer(r, 4, 1);
+    let r = timer(r, 5, 2);
+    let r = timer(r, 6, 4);
+    timer(r, 7, 8)
+}
+
+// A tick apart from some of the low ones, and the greatest.
+fn high_timers(r: Run) -> Run {
+    let r = timer(r, 8, 16);
+    let r = timer(r, 9, 32);
+    let r = timer(r, 10, 64);
+    let r = timer(r, 11, 128);
+    let r = timer(r, 12, 10);
+    let r = timer(r, 13, 28);
+    let r = timer(r, 14, 82);
+    timer(r, 15, 4_294_967_295)
+}
+
+fn sixteen_timers() {
+    let r = high_timers(low_timers(begin(b"sixteen timers", 1, 1, 16)));
+    let r = r.elapse(4_294_967_295);
+    r.end();
+}
+
+fn sixteen_timers_in_parts() {
+    let r = high_timers(low_timers(begin(b"sixteen timers in parts", 1, 1, 16)));
+    let r = r.elapse(0);
+    let r = r.elapse(9);
+    let r = r.elapse(54);
+    let r = r.elapse(1);
+    r.end();
+}
+
+// Timers that end together are one stop.
+fn equal_timers() {
+    let r = timer(begin(b"equal timers", 1, 1, 3), 0, 3);
+    let r = timer(r, 2, 3);
+    let r = timer(r, 1, 4);
+    let r = r.elapse(3);
+    let r = r.elapse(0);
+    r.end();
+}
+
+// A header's answer, and the capacity and the counts of its drive.
+fn header(capacity: u64, bands: u64, sensors: u64) {
+    let fresh = Drive::fresh(capacity, bands, sensors);
+    let answer = fresh.answer;
+    let drive = fresh.drive;
+    print(b"h");
+    print_answer(answer);
+    print_next(drive.capacity);
+    print_next(drive.band_count as u64);
+    print_next(drive.sensor_count as u64);
+    print(b"\n");
+}
+
+fn headers() {
+    print(b"headers\n");
+    header(1, 1, 0);
+    header(281_474_976_710_656, 16, 16);
+    header(0, 1, 0);
+    header(281_474_976_710_657, 16, 16);
+    header(1_000, 0, 16);
+    header(1_000, 17, 16);
+    header(1_000, 16, 17);
+    header(MOST, MOST, MOST);
+}
+
+// The drive of a header out of range.
+fn least_drive() {
+    let r = begin(b"header out of range", 1_000, 17, 2);
+    let r = r.reading(0, 0);
+    let r = r.set_geometry(1, 0, 0);
+    let r = r.set_band(0, 36, 0, 0, 1, 0, 0, &ALWAYS);
+    let r = r.transfer(0, 0, 1);
+    let r = r.transfer(0, 1, 0);
+    let r = r.transfer(0, 0, 2);
+    r.end();
+}
+
+fn greatest_drive() {
+    let r = begin(b"greatest drive", 281_474_976_710_656, 16, 16);
+    let r = r.set_geometry(1, 0, 281_474_976_710_656);
+    let r = r.lock_read(1);
+    let r = r.transfer(0, 281_474_976_710_655, 1);
+    let r = r.transfer(1, 281_474_976_710_655, 1);
+    let r = r.transfer(0, 281_474_976_710_655, 2);
+    let r = r.transfer(0, 281_474_976_710_656, 0);
+    let r = r.set_geometry(1, 281_474_976_710_655, 1);
+    let r = r.transfer(0, 0, 281_474_976_710_655);
+    r.end();
+}
+
+fn expressions() {
+    worked();
+    applied();
+    in_one_elapse();
+    in_ticks();
+    before_the_second();
+}
+
+fn transfers() {
+    reads();
+    writes();
+    global_locked();
+}
+
+fn refusals() {
+    band_precedence();
+    band_ranges();
+    outside_a_script();
+    sensor_refusals();
+    ranges();
+    geometry_refusals();
+    transfer_refusals();
+}
+
+fn locks() {
+    held();
+    new_expression();
+    new_columns();
+    disabled_side();
+}
+
+fn resets() {
+    reset_with(b"reset 0", 0);
+    reset_with(b"reset 1", 1);
+    reset_with(b"reset 2", 2);
+    reset_pairs();
+    power_cycle();
+    after_power_cycle();
+    other_resets();
+}
+
+fn timers() {
+    longest_elapse();
+    long_elapses();
+    sixteen_timers();
+    sixteen_timers_in_parts();
+    equal_timers();
+}
+
+fn main() {
+    expressions();
+    transfers();
+    refusals();
+    locks();
+    resets();
+    tiled();
+    timers();
+    headers();
+    least_drive();
+    greatest_drive();
+}
