@@ -9,12 +9,12 @@ use borrow.Author.Tests.{ltb-true, eqb-false}
 use Rattle.numbers.specs.Groups.{Found, found, none, groupsFrom, prefixed, numberFrom}
 
 -- 128 to the power of k + 1
-top : ℕ → ℕ
+unfoldable pub top : ℕ → ℕ
 top zero = 128
 top (suc k) = 128 * top k
 
 -- what a further group says: the rest's number, which is not 0 and is below 2^57
-more-is : (b : ℕ) (r : Found) (v n : ℕ) → prefixed b r ≡ found v n → (w : ℕ) × (r ≡ found w n) × (0 < w) × (w < 144115188075855872) × (v ≡ b % 128 + 128 * w)
+pub more-is : (b : ℕ) (r : Found) (v n : ℕ) → prefixed b r ≡ found v n → (w : ℕ) × (r ≡ found w n) × (0 < w) × (w < 144115188075855872) × (v ≡ b % 128 + 128 * w)
 more-is b none v n h = let z : _≡_ {A = ℕ} 0 1 = cc in absurd (omega arith)
 more-is b (found w m) v n h = go (eqb w 0) refl (ltb w 144115188075855872) refl h
   where
@@ -28,7 +28,7 @@ more-is b (found w m) v n h = go (eqb w 0) refl (ltb w 144115188075855872) refl 
         go-pos (suc x) f = omega arith
     go false p false q h = let z : _≡_ {A = ℕ} 0 1 = cc in absurd (omega arith)
 
-below : (at : ℕ) (s : List ℕ) (v n : ℕ) → numberFrom at s ≡ found v n → v < 18446744073709551616
+pub below : (at : ℕ) (s : List ℕ) (v n : ℕ) → numberFrom at s ≡ found v n → v < 18446744073709551616
 unfolding numberFrom
 below at [] v n h = let z : _≡_ {A = ℕ} 0 1 = cc in absurd (omega arith)
 below at (b ∷ s) v n h = go (ltb b 128) refl h

@@ -1,10 +1,11 @@
 -- Document 01, 'Script': "Every number is in groups of seven bits, low group first, top bit set when more follow. Shortest form only, below
 -- 2^64."
+use mathlib.Core.Path.{_≡_}
 use Prim.Native.Nat.{ℕ, zero, suc, _+_, _*_, _/_, _%_}
 use mathlib.Core.Bool.{cond}
-use mathlib.Core.List.{List, [], _∷_}
+use mathlib.Core.List.{List, [], _∷_, _++_}
 use lib.Dec.{eqb, ltb}
-use lib.ListN.{drop}
+use lib.ListN.{length, drop}
 use Rattle.numbers.specs.declared.Number.{Number}
 use Rattle.numbers.specs.declared.Number.the-variants.{Is, Bad}
 
@@ -37,7 +38,11 @@ groupsFrom zero at bytes = none
 groupsFrom (suc k) at [] = none
 groupsFrom (suc k) at (b ∷ bytes) = cond (ltb b 128) (found b (at + 1)) (prefixed b (groupsFrom k (at + 1) bytes))
 
--- the groups of a number, at most so many: the bytes that read to it
+-- the groups of a number, at most so many: `its-groups-read` and `only-its-groups` say that these bytes, and no others, read to it
 unfoldable pub groupsOf : ℕ → ℕ → List ℕ
 groupsOf zero v = []
 groupsOf (suc k) v = cond (ltb v 128) (v ∷ []) ((v % 128 + 128) ∷ groupsOf k (v / 128))
+
+-- the bytes start with the groups of a number, at most so many, and the place after them is after them all
+abbrev pub Starts : ℕ → ℕ → List ℕ → ℕ → ℕ → Type 0
+Starts k at s v n = (rest : List ℕ) × (s ≡ groupsOf k v ++ rest) × (n ≡ at + length (groupsOf k v))
