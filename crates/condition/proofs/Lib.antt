@@ -1,2 +1,5 @@
 pub mod Basics
 pub mod Agree
+pub mod Strike
+pub mod Isolation
+pub mod History
