@@ -12,6 +12,8 @@ use Rattle.base.specs.Lists.{any}
 use Rattle.base.specs.Rows.{isRow, modify}
 use Rattle.base.specs.Ticks.{ticks}
 use Rattle.base.proofs.Cases.{and-yes}
+use Rattle.base.proofs.Lists.{getD-map}
+use Rattle.base.proofs.Rows.{apart, modify-agree, modify-other, modify-keeps, length-modify}
 use Rattle.sensor.specs.declared.single.Sensor.{Sensor}
 use Rattle.sensor.specs.Single.{freshSensor, readingOf, powerCycleOf}
 use Rattle.sensor.specs.Single.{tickOf as sensorTick}
@@ -20,7 +22,6 @@ use Rattle.sensor.proofs.Motion.{fresh-tick, fresh-power-cycle}
 use Rattle.sensors.specs.Sixteen.{conditionsBelow}
 use Rattle.sensors.proofs.Gather.{condition-below, condition-past}
 use Rattle.expression.specs.declared.Element.{Element}
-use Rattle.expression.specs.declared.Expression.{Expression}
 use Rattle.expression.specs.Elements.{elementsIn}
 use Rattle.evaluator.specs.Value.{valueOf, mentions}
 use Rattle.evaluator.proofs.Mentions.{value-same}
@@ -31,31 +32,10 @@ use Rattle.band.specs.Rows.{freshRow, valueIn, lockUnder, settleRow, inSet, res
 use Rattle.band.specs.Sets.{formedRow, heldBy}
 use Rattle.band.proofs.Settling.{settle-again, fresh-settles, fresh-reset}
 use Rattle.drive.specs.declared.Drive.{Drive}
-use Rattle.drive.specs.State.{withRows, withSpans, withSensors, conditionsOf, rowAt, valueAt, settleOf, fallOf, tickOf}
-use Rattle.drive.specs.Events.{
-  Event,
-  reading,
-  elapse,
-  reset,
-  sensorSet,
-  bandSet,
-  geometry,
-  transfer,
-  noRow,
-  outOfRange,
-  notTokens,
-  tooLong,
-  held,
-  formedFrom,
-  lowest,
-  answerOf,
-  resetOf,
-  actOf,
-  stepOf,
-}
+use Rattle.drive.specs.State.{withRows, withSensors, conditionsOf, rowAt, valueAt, settleOf, tickOf}
+use Rattle.drive.specs.Events.{Event, reading, elapse, reset, sensorSet, bandSet, geometry, transfer, outOfRange, notTokens, tooLong, held, formedFrom, lowest, answerOf, resetOf, actOf, stepOf}
 use Rattle.condition.specs.History.{granted, ownSet}
 use Rattle.condition.specs.Compared.{mentionedIn, refersIn, stays}
-use Rattle.condition.proofs.Basics.{apart, getD-map, modify-agree, modify-other, modify-keeps, length-modify}
 
 abbrev pub sensorAt : Drive → ℕ → Sensor
 sensorAt d s = getD (d .sensors) s freshSensor

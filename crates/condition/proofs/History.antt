@@ -1,44 +1,28 @@
 -- Condition 3, second claim: the history rule.
-use Prim.Native.Nat.{ℕ, zero, suc, _<_, _≤_}
+use Prim.Native.Nat.{ℕ, zero, suc, _<_}
 use mathlib.Core.Path.{_≡_, refl, sym, ap, _∙_}
 use mathlib.Core.Logic.{_↔_, _⊎_, inl, inr}
-use mathlib.Core.Bool.{Bool, true, false, not, cond, _&&_, _||_, false≢true, or-false, or-true, and-true, and-false, or-assoc}
-use mathlib.Core.List.{List, [], _∷_, _++_, map}
+use mathlib.Core.Bool.{Bool, true, false, not, cond, _&&_, _||_, false≢true, or-false, or-true, and-true, or-assoc}
+use mathlib.Core.List.{List, [], _∷_, _++_}
 use native.Mathlib.Omega.{arith}
-use lib.Dec.{eqb, ltb, leb}
+use lib.Dec.{eqb, ltb}
 use lib.ListN.{length, getD, length-map}
-use borrow.Author.Tests.{eqb-true, eqb-false, leb-true, not-false, not-true}
+use borrow.Author.Tests.{eqb-true, eqb-false, leb-true, not-false}
 use Rattle.base.specs.Lists.{any}
-use Rattle.base.specs.Columns.{named, within}
-use Rattle.base.specs.Rows.{isRow, modify}
+use Rattle.base.specs.Columns.{within}
+use Rattle.base.specs.Rows.{modify}
 use Rattle.base.specs.Ticks.{ticks}
-use Rattle.base.proofs.Cases.{and-left, and-right}
+use Rattle.base.proofs.Cases.{and-left, and-right, or-second, neither}
+use Rattle.base.proofs.Rows.{modify-same, modify-other, length-modify}
 use Rattle.band.specs.declared.Side.{Side}
 use Rattle.band.specs.declared.Side.the-variants.{Read, Write}
 use Rattle.band.specs.declared.Row.{Row}
 use Rattle.band.specs.declared.BandColumns.{BandColumns}
-use Rattle.band.specs.Rows.{freshRow, enabledOn, lockedOn, valueIn, lockUnder, settleRow, inSet, resetRow}
+use Rattle.band.specs.Rows.{freshRow, enabledOn, lockedOn, lockUnder, settleRow, inSet, resetRow}
 use Rattle.band.specs.Sets.{columnsFit, formedRow, lockedNamed, lockedValue, namesLocked}
 use Rattle.drive.specs.declared.Drive.{Drive}
-use Rattle.drive.specs.State.{freshDrive, withRows, conditionsOf, rowAt, valueAt, settleOf, fallOf, tickOf}
-use Rattle.drive.specs.Events.{
-  Event,
-  reading,
-  elapse,
-  reset,
-  sensorSet,
-  bandSet,
-  geometry,
-  transfer,
-  refusals,
-  formedFrom,
-  lowest,
-  answerOf,
-  resetOf,
-  actOf,
-  stepOf,
-  runOf,
-}
+use Rattle.drive.specs.State.{freshDrive, conditionsOf, rowAt, valueAt, settleOf, fallOf, tickOf}
+use Rattle.drive.specs.Events.{Event, reading, elapse, reset, sensorSet, bandSet, geometry, transfer, refusals, formedFrom, lowest, answerOf, actOf, stepOf, runOf}
 use Rattle.condition.specs.History.{
   Moment,
   ended,
@@ -52,14 +36,13 @@ use Rattle.condition.specs.History.{
   locks,
   LockedByHistory,
 }
-use Rattle.condition.proofs.Basics.{or-second, neither, modify-same, modify-other, length-modify}
 use Rattle.condition.proofs.Agree.{Settled, settle-at, reset-at, step-settled}
 use Rattle.condition.proofs.Isolation.{fresh-at, fresh-settled}
 
 -- ---- a flag that moments clear and mark, over any list
 
 module _ {M : Type 0} (clear mark : M → Bool) where
-  flagAfter : Bool → List M → Bool
+  unfoldable pub flagAfter : Bool → List M → Bool
   flagAfter l [] = l
   flagAfter l (m ∷ ms) = flagAfter ((not (clear m) && l) || mark m) ms
 
@@ -215,7 +198,7 @@ module _ (side : Side) (band : ℕ) where
     where
       go : (t : Bool) → eqb b band ≡ t
           → lockedOn side (getD (modify (formedFrom c bytes) b (d .rows)) band freshRow)
-            ≡ ((not (t && namesLocked side 0 c) && flag d) || ((t && namesLocked side 1 c) || false))
+          ≡ ((not (t && namesLocked side 0 c) && flag d) || ((t && namesLocked side 1 c) || false))
       go true e =
           rw (eqb-true b band e, modify-same (formedFrom c bytes) freshRow (d .rows) band h, formed-column side c bytes (rowAt d band))
           (column (lockedNamed side c) (lockedValue side c) (flag d) (granted-fits d c bytes b g))
@@ -244,13 +227,13 @@ module _ (side : Side) (band : ℕ) where
   -- the moment at which an event ends, from the drive that its ticks leave
   end-flag : (d : Drive) (x : Event) → band < length (d .rows) → Settled band d
       → ((not (granted d x && namesTo 0 x) && flag (cond (granted d x) (ticks tickOf (lengthOf x) d) d))
-        || ((granted d x && namesTo 1 x) || ((granted d x && resets d x) || holds (stepOf d x)))) ≡ flag (stepOf d x)
+      || ((granted d x && namesTo 1 x) || ((granted d x && resets d x) || holds (stepOf d x)))) ≡ flag (stepOf d x)
   unfolding stepOf
   end-flag d x h z = go (granted d x) refl
     where
       go : (g : Bool) → granted d x ≡ g
           → ((not (g && namesTo 0 x) && flag (cond g (ticks tickOf (lengthOf x) d) d))
-            || ((g && namesTo 1 x) || ((g && resets d x) || holds (cond g (settleOf (actOf d x)) d)))) ≡ flag (cond g (settleOf (actOf d x)) d)
+          || ((g && namesTo 1 x) || ((g && resets d x) || holds (cond g (settleOf (actOf d x)) d)))) ≡ flag (cond g (settleOf (actOf d x)) d)
       go true e =
           let l = not (namesTo 0 x) && flag (ticks tickOf (lengthOf x) d) in
           let after = holds (settleOf (actOf d x)) in

@@ -1,22 +1,23 @@
 -- Condition 3, first claim: equal compared lists leave the band alike.
 use Prim.Native.Nat.{ℕ}
 use mathlib.Core.Path.{_≡_, refl, sym, ap, _∙_}
-use mathlib.Core.Bool.{Bool, true, false, cond, _&&_, false≢true}
+use mathlib.Core.Bool.{Bool, true, false, false≢true}
 use mathlib.Core.List.{List, [], _∷_, _++_}
 use lib.Dec.{eqb}
 use borrow.Author.Tests.{eqb-true, eq-eqb}
 use Rattle.base.specs.Lists.{any}
-use Rattle.base.proofs.Cases.{and-no}
+use Rattle.base.proofs.Cases.{and-no, or-yes, or-second}
+use Rattle.base.proofs.Lists.{getD-same}
 use Rattle.evaluator.specs.Value.{mentions}
+use Rattle.band.specs.declared.BandColumns.{BandColumns}
 use Rattle.band.specs.Rows.{freshRow}
 use Rattle.band.proofs.Settling.{fresh-settles}
 use Rattle.drive.specs.declared.Drive.{Drive}
-use Rattle.drive.specs.State.{freshDrive, rowAt, valueAt}
+use Rattle.drive.specs.State.{freshDrive, rowAt}
 use Rattle.drive.specs.Events.{Event, reading, elapse, reset, sensorSet, bandSet, geometry, transfer, stepOf, runOf}
 use Rattle.condition.specs.History.{ownSet}
 use Rattle.condition.specs.Compared.{refersIn, namedIn, stays, only, compared, answerTo, answersTo}
 use Rattle.condition.specs.Condition.{SameBand}
-use Rattle.condition.proofs.Basics.{or-first, or-second, getD-same}
 use Rattle.condition.proofs.Strike.{All, runs, outs, strike}
 use Rattle.condition.proofs.Agree.{Settled, Agree, Fit, band-value, answer-same, step-kept, step-struck}
 
@@ -36,7 +37,7 @@ module _ (band : ℕ) where
   unfolding namedIn any
   all-fit N [] w = tt
   all-fit N (x ∷ es) w = (
-    λ b t r u. w r (or-first (ownSet band (refersIn r) x) (namedIn band es r) (rw (eqb-true b band t) at u)),
+    λ b t r u. w r (sym (or-yes (ownSet band (refersIn r) x) (namedIn band es r) (rw (eqb-true b band t) at u))),
     all-fit N es (λ r t. w r (or-second (ownSet band (refersIn r) x) (namedIn band es r) t)),
   )
 
@@ -44,15 +45,20 @@ module _ (band : ℕ) where
       → answerTo band d x ≡ answerTo band e x
   said N d e x t w p = rw (answer-same (only band) N x t w (p .same))
 
-  silent : (N : ℕ → Bool) (d : Drive) (x : Event) → stays (only band) N x ≡ false → answerTo band d x ≡ []
+  -- an event that is struck is no Set of the band
+  pub no-own-set : (N : ℕ → Bool) (passes : BandColumns → List ℕ → Bool) (x : Event) → stays (only band) N x ≡ false
+      → ownSet band passes x ≡ false
   unfolding stays
-  silent N d (reading s v) t = refl
-  silent N d (elapse n) t = refl
-  silent N d (reset n) t = refl
-  silent N d (sensorSet s c) t = refl
-  silent N d (bandSet b c bytes) t = rw t
-  silent N d (geometry b start n) t = refl
-  silent N d (transfer v start n) t = refl
+  no-own-set N passes (reading s v) t = refl
+  no-own-set N passes (elapse n) t = refl
+  no-own-set N passes (reset n) t = refl
+  no-own-set N passes (sensorSet s c) t = refl
+  no-own-set N passes (bandSet b c bytes) t = sym (and-no (eqb b band) (passes c bytes) t)
+  no-own-set N passes (geometry b start n) t = refl
+  no-own-set N passes (transfer v start n) t = refl
+
+  silent : (N : ℕ → Bool) (d : Drive) (x : Event) → stays (only band) N x ≡ false → answerTo band d x ≡ []
+  silent N d x t = rw (no-own-set N (λ c bytes. true) x t)
 
 module _ (capacity bands sensors band : ℕ) where
   pub fresh-at : rowAt (freshDrive capacity bands sensors) band ≡ freshRow

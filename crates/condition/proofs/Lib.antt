@@ -1,5 +1,7 @@
-pub mod Basics
 pub mod Agree
 pub mod Strike
 pub mod Isolation
 pub mod History
+pub mod Condition
+pub mod Corollaries
+pub mod Examples

@@ -32,6 +32,6 @@ module _ {D E O : Type 0} (step : D → E → D) (out : D → E → List O) wher
         go : (t : Bool) → stay x ≡ t
             → ((k : D) → R (step d x) k → R (runs (step d x) xs) (runs k (keep stay xs)) × (outs (step d x) xs ≡ outs k (keep stay xs)))
             → R (runs (step d x) xs) (runs e (cond t (x ∷ keep stay xs) (keep stay xs)))
-              × (out d x ++ outs (step d x) xs ≡ outs e (cond t (x ∷ keep stay xs) (keep stay xs)))
+            × (out d x ++ outs (step d x) xs ≡ outs e (cond t (x ∷ keep stay xs) (keep stay xs)))
         go true t ih = let i = ih (step e x) (kept d e x t w r) in (i .0, rw (said d e x t w r, i .1))
         go false t ih = let i = ih e (struck d e x t r) in (i .0, rw (silent d x t) (i .1))

@@ -30,4 +30,4 @@ pub record Condition3 : Type 0 where
   pub history : (capacity bands sensors : ℕ) → headerFits capacity bands sensors ≡ true → (band : ℕ) → band < bands
       → (side : Side) (es : List Event)
       → (lockedOn side (rowAt (runOf (freshDrive capacity bands sensors) es) band) ≡ true)
-        ↔ LockedByHistory side band (moments (freshDrive capacity bands sensors) es)
+      ↔ LockedByHistory side band (moments (freshDrive capacity bands sensors) es)
