@@ -5,7 +5,7 @@ use native.Mathlib.Numerals.{add-one}
 use native.Mathlib.Omega.{arith}
 use mathlib.Core.Bool.{Bool, true, false, cond, _||_, false≢true}
 use mathlib.Core.List.{List, [], _∷_, map}
-use lib.ListN.{length, getD, set, length-map}
+use lib.ListN.{length, getD, set, replicate, length-map}
 use Rattle.base.specs.Lists.{oneIf}
 
 -- f at the first i elements, and the rest as it was
@@ -93,3 +93,14 @@ module _ {A B : Type 0} (f : A → B) where
   fillTo-all (suc i) [] (y ∷ o) h k = absurd (omega arith)
   fillTo-all (suc i) (x ∷ l) [] h k = absurd (omega arith)
   fillTo-all (suc i) (x ∷ l) (y ∷ o) h k = ap {B = List B} (λ r. f x ∷ r) (fillTo-all i l o (omega arith) (omega arith))
+
+-- an element of a mapped list, where the map keeps the default
+pub getD-map : {A : Type 0} (f : A → A) (d : A) → f d ≡ d → (l : List A) (n : ℕ) → getD (map f l) n d ≡ f (getD l n d)
+getD-map f d e [] n = sym e
+getD-map f d e (x ∷ l) zero = refl
+getD-map f d e (x ∷ l) (suc n) = getD-map f d e l n
+
+pub getD-same : {A : Type 0} (n i : ℕ) (a : A) → getD (replicate n a) i a ≡ a
+getD-same zero i a = refl
+getD-same (suc n) zero a = refl
+getD-same (suc n) (suc i) a = getD-same n i a

@@ -1,0 +1,98 @@
+-- What follows of condition 3 for one struck event, and for a list in which nothing but time and resets can reach the band. That a list
+-- and its own compared list leave the band alike is `kept-alone`.
+use Prim.Native.Nat.{ℕ, zero, suc}
+use mathlib.Core.Path.{_≡_, ap, _∙_, fun-ext}
+use mathlib.Core.Bool.{Bool, true, false, cond, _||_, false≢true}
+use mathlib.Core.List.{List, [], _∷_, _++_}
+use Rattle.base.specs.Lists.{any}
+use Rattle.base.specs.Ticks.{ticks}
+use Rattle.evaluator.proofs.Mentions.{value-empty}
+use Rattle.band.specs.Rows.{freshRow, valueIn, settleRow, resetRow}
+use Rattle.band.proofs.Settling.{fresh-settles, fresh-reset}
+use Rattle.drive.specs.declared.Drive.{Drive}
+use Rattle.drive.specs.State.{freshDrive, conditionsOf, rowAt, valueAt, settleOf, fallOf, tickOf}
+use Rattle.drive.specs.Events.{Event, reading, elapse, reset, sensorSet, bandSet, geometry, transfer, actOf, stepOf, runOf}
+use Rattle.condition.specs.History.{granted, ownSet}
+use Rattle.condition.specs.Compared.{refersIn, namedIn, stays, keep, only, compared}
+use Rattle.condition.specs.Condition.{SameBand}
+use Rattle.condition.proofs.Agree.{settle-at, reset-at}
+use Rattle.condition.proofs.Strike.{All}
+use Rattle.condition.proofs.Isolation.{no-own-set, fresh-at, kept-alone, isolation}
+
+-- ---- one event struck
+
+module _ {A : Type 0} (p : A → Bool) (x : A) (e : p x ≡ false) where
+  any-without : (l m : List A) → any p (l ++ (x ∷ m)) ≡ any p (l ++ m)
+  unfolding any
+  any-without [] m = rw e
+  any-without (y ∷ l) m = ap (λ (t : Bool). p y || t) (any-without l m)
+
+  keep-without : (l m : List A) → keep p (l ++ (x ∷ m)) ≡ keep p (l ++ m)
+  unfolding keep
+  keep-without [] m = rw e
+  keep-without (y ∷ l) m = ap (λ (t : List A). cond (p y) (y ∷ t) t) (keep-without l m)
+
+compared-without : (band : ℕ) (x : Event) (es fs : List Event) → stays (only band) (namedIn band (es ++ (x ∷ fs))) x ≡ false
+    → compared band (es ++ (x ∷ fs)) ≡ compared band (es ++ fs)
+unfolding compared namedIn
+compared-without band x es fs t =
+    keep-without (stays (only band) (namedIn band (es ++ (x ∷ fs)))) x t es fs
+    ∙ ap (λ (N : ℕ → Bool). keep (stays (only band) N) (es ++ fs))
+    (fun-ext (λ r. any-without (ownSet band (refersIn r)) x (no-own-set band (namedIn band (es ++ (x ∷ fs))) (refersIn r) x t) es fs))
+
+pub struck-never-moves : (capacity bands sensors band : ℕ) (x : Event) (es fs : List Event)
+    → stays (only band) (namedIn band (es ++ (x ∷ fs))) x ≡ false
+    → SameBand band (freshDrive capacity bands sensors) (es ++ (x ∷ fs)) (es ++ fs)
+struck-never-moves capacity bands sensors band x es fs t =
+    isolation capacity bands sensors band (es ++ (x ∷ fs)) (es ++ fs) (compared-without band x es fs t)
+
+-- ---- nothing but time and resets
+
+-- what stays where no band and no sensor is meant: an elapse or a reset
+abbrev pub isTime : Event → Type 0
+isTime x = stays (λ b. false) (λ s. false) x ≡ true
+
+module _ (band : ℕ) where
+  settle-fresh : (d : Drive) → rowAt d band ≡ freshRow → rowAt (settleOf d) band ≡ freshRow
+  settle-fresh d e = settle-at d band ∙ ap (settleRow (conditionsOf d)) e ∙ fresh-settles (conditionsOf d)
+
+  ticks-fresh : (n : ℕ) (d : Drive) → rowAt d band ≡ freshRow → rowAt (ticks tickOf n d) band ≡ freshRow
+  unfolding ticks tickOf
+  ticks-fresh zero d e = e
+  ticks-fresh (suc n) d e = ticks-fresh n (tickOf d) (settle-fresh (fallOf d) e)
+
+  act-fresh : (d : Drive) (x : Event) → isTime x → rowAt d band ≡ freshRow → rowAt (actOf d x) band ≡ freshRow
+  unfolding actOf stays
+  act-fresh d (reading s v) t e = absurd (false≢true t)
+  act-fresh d (elapse n) t e = ticks-fresh n d e
+  act-fresh d (reset n) t e = reset-at n d band ∙ ap (resetRow n) e ∙ fresh-reset n
+  act-fresh d (sensorSet s c) t e = absurd (false≢true t)
+  act-fresh d (bandSet b c bytes) t e = absurd (false≢true t)
+  act-fresh d (geometry b start n) t e = absurd (false≢true t)
+  act-fresh d (transfer w start n) t e = absurd (false≢true t)
+
+  step-fresh : (d : Drive) (x : Event) → isTime x → rowAt d band ≡ freshRow → rowAt (stepOf d x) band ≡ freshRow
+  unfolding stepOf
+  step-fresh d x t e = go (granted d x)
+    where
+      go : (g : Bool) → rowAt (cond g (settleOf (actOf d x)) d) band ≡ freshRow
+      go true = settle-fresh (actOf d x) (act-fresh d x t e)
+      go false = e
+
+  run-fresh : (es : List Event) (d : Drive) → All isTime es → rowAt d band ≡ freshRow → rowAt (runOf d es) band ≡ freshRow
+  unfolding runOf
+  run-fresh [] d a e = e
+  run-fresh (x ∷ es) d (t, a) e = run-fresh es (stepOf d x) a (step-fresh d x t e)
+
+pub only-time : (capacity bands sensors band : ℕ) (es : List Event) → All isTime (compared band es)
+    → (rowAt (runOf (freshDrive capacity bands sensors) es) band ≡ freshRow) × (valueAt (runOf (freshDrive capacity bands sensors) es) band ≡ false)
+unfolding freshRow
+only-time capacity bands sensors band es a = (row, ap (valueIn (conditionsOf after)) row ∙ value-empty (conditionsOf after))
+  where
+    after : Drive
+    after = runOf (freshDrive capacity bands sensors) es
+
+    row : rowAt after band ≡ freshRow
+    row =
+        kept-alone capacity bands sensors band es .row
+        ∙ run-fresh band (compared band es) (freshDrive capacity bands sensors) a (fresh-at capacity bands sensors band)

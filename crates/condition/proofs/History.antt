@@ -1,0 +1,303 @@
+-- Condition 3, second claim: the history rule.
+use Prim.Native.Nat.{ℕ, zero, suc, _<_}
+use mathlib.Core.Path.{_≡_, refl, sym, ap, _∙_}
+use mathlib.Core.Logic.{_↔_, _⊎_, inl, inr}
+use mathlib.Core.Bool.{Bool, true, false, not, cond, _&&_, _||_, false≢true, or-false, or-true, and-true, or-assoc}
+use mathlib.Core.List.{List, [], _∷_, _++_}
+use native.Mathlib.Omega.{arith}
+use lib.Dec.{eqb, ltb}
+use lib.ListN.{length, getD, length-map}
+use borrow.Author.Tests.{eqb-true, eqb-false, leb-true, not-false}
+use Rattle.base.specs.Lists.{any}
+use Rattle.base.specs.Columns.{within}
+use Rattle.base.specs.Rows.{modify}
+use Rattle.base.specs.Ticks.{ticks}
+use Rattle.base.proofs.Cases.{and-left, and-right, or-second, neither}
+use Rattle.base.proofs.Rows.{modify-same, modify-other, length-modify}
+use Rattle.band.specs.declared.Side.{Side}
+use Rattle.band.specs.declared.Side.the-variants.{Read, Write}
+use Rattle.band.specs.declared.Row.{Row}
+use Rattle.band.specs.declared.BandColumns.{BandColumns}
+use Rattle.band.specs.Rows.{freshRow, enabledOn, lockedOn, lockUnder, settleRow, inSet, resetRow}
+use Rattle.band.specs.Sets.{columnsFit, formedRow, lockedNamed, lockedValue, namesLocked}
+use Rattle.drive.specs.declared.Drive.{Drive}
+use Rattle.drive.specs.State.{freshDrive, conditionsOf, rowAt, valueAt, settleOf, fallOf, tickOf}
+use Rattle.drive.specs.Events.{Event, reading, elapse, reset, sensorSet, bandSet, geometry, transfer, refusals, formedFrom, lowest, answerOf, actOf, stepOf, runOf}
+use Rattle.condition.specs.History.{
+  Moment,
+  ended,
+  granted,
+  lengthOf,
+  tickMoments,
+  moments,
+  ownSet,
+  resetWith,
+  unlocks,
+  locks,
+  LockedByHistory,
+}
+use Rattle.condition.proofs.Agree.{Settled, settle-at, reset-at, step-settled}
+use Rattle.condition.proofs.Isolation.{fresh-at, fresh-settled}
+
+-- ---- a flag that moments clear and mark, over any list
+
+module _ {M : Type 0} (clear mark : M → Bool) where
+  unfoldable pub flagAfter : Bool → List M → Bool
+  flagAfter l [] = l
+  flagAfter l (m ∷ ms) = flagAfter ((not (clear m) && l) || mark m) ms
+
+  after-append : (l : Bool) (xs ys : List M) → flagAfter l (xs ++ ys) ≡ flagAfter (flagAfter l xs) ys
+  unfolding flagAfter
+  after-append l [] ys = refl
+  after-append l (x ∷ xs) ys = after-append _ xs ys
+
+  -- a flag that is up and never cleared stays up
+  stays-up : (l : Bool) (ms : List M) → l ≡ true → any clear ms ≡ false → flagAfter l ms ≡ true
+  unfolding flagAfter any
+  stays-up l [] t n = t
+  stays-up l (m ∷ ms) t n = let k = neither (clear m) (any clear ms) n in stays-up _ ms (rw (k .0, t)) (k .1)
+
+  -- some moment marks it and no later one clears it
+  Last : List M → Type 0
+  Last ms = (a : List M) × (m : M) × (c : List M) × (ms ≡ a ++ (m ∷ c)) × (mark m ≡ true) × (any clear c ≡ false)
+
+  from-last : (l : Bool) (ms : List M) → Last ms → flagAfter l ms ≡ true
+  unfolding Last flagAfter
+  from-last l ms (a, m, c, e, t, n) =
+      rw (e, after-append l a (m ∷ c)) (stays-up _ c (or-second (not (clear m) && flagAfter l a) (mark m) t) n)
+
+  -- a flag that is up at the end was up at the start and never cleared, or was marked and not cleared since
+  to-last : (l : Bool) (ms : List M) → flagAfter l ms ≡ true → ((l ≡ true) × (any clear ms ≡ false)) ⊎ Last ms
+  unfolding Last flagAfter any
+  to-last l [] t = inl (t, refl)
+  to-last l (m ∷ ms) t = go (to-last _ ms t)
+    where
+      now : (c l k : Bool) → ((not c && l) || k) ≡ true → any clear ms ≡ false → ((l ≡ true) × ((c || any clear ms) ≡ false)) ⊎ (k ≡ true)
+      now true l k u n = inr u
+      now false true k u n = inl (refl, n)
+      now false false k u n = inr u
+
+      up : any clear ms ≡ false → ((l ≡ true) × ((clear m || any clear ms) ≡ false)) ⊎ (mark m ≡ true)
+          → ((l ≡ true) × ((clear m || any clear ms) ≡ false)) ⊎ Last (m ∷ ms)
+      up n (inl u) = inl u
+      up n (inr k) = inr ([], m, ms, refl, k, n)
+
+      go : ((((not (clear m) && l) || mark m) ≡ true) × (any clear ms ≡ false)) ⊎ Last ms
+          → ((l ≡ true) × ((clear m || any clear ms) ≡ false)) ⊎ Last (m ∷ ms)
+      go (inl (u, n)) = up n (now (clear m) l (mark m) u n)
+      go (inr (a, x, c, e, k, n)) = inr (m ∷ a, x, c, ap (λ (q : List M). m ∷ q) e, k, n)
+
+-- ---- no event changes the number of rows
+
+settle-long : (d : Drive) → length (settleOf d .rows) ≡ length (d .rows)
+unfolding settleOf
+settle-long d = length-map (d .rows) _
+
+ticks-long : (n : ℕ) (d : Drive) → length (ticks tickOf n d .rows) ≡ length (d .rows)
+unfolding ticks tickOf
+ticks-long zero d = refl
+ticks-long (suc n) d = ticks-long n (tickOf d) ∙ settle-long (fallOf d)
+
+act-long : (d : Drive) (x : Event) → length (actOf d x .rows) ≡ length (d .rows)
+unfolding actOf
+act-long d (reading s v) = refl
+act-long d (elapse n) = ticks-long n d
+act-long d (reset t) = length-map (d .rows) _
+act-long d (sensorSet s c) = refl
+act-long d (bandSet b c bytes) = length-modify _ b (d .rows)
+act-long d (geometry b start n) = refl
+act-long d (transfer w start n) = refl
+
+rows-long : (d : Drive) (x : Event) → length (stepOf d x .rows) ≡ length (d .rows)
+unfolding stepOf
+rows-long d x = go (granted d x)
+  where
+    go : (g : Bool) → length (cond g (settleOf (actOf d x)) d .rows) ≡ length (d .rows)
+    go true = settle-long (actOf d x) ∙ act-long d x
+    go false = refl
+
+-- ---- the side's Locked column along the moments
+
+module _ (side : Side) (band : ℕ) where
+  flag : Drive → Bool
+  flag d = lockedOn side (rowAt d band)
+
+  holds : Drive → Bool
+  holds d = enabledOn side (rowAt d band) && valueAt d band
+
+  along : Bool → List Moment → Bool
+  along l ms = flagAfter (unlocks side band) (locks side band) l ms
+
+  lock-column : (s : Side) (v : Bool) (x : Row) → lockedOn s (lockUnder v x) ≡ (lockedOn s x || (enabledOn s x && v))
+  lock-column Read v x = refl
+  lock-column Write v x = refl
+
+  lock-enabled : (s : Side) (v : Bool) (x : Row) → enabledOn s (lockUnder v x) ≡ enabledOn s x
+  lock-enabled Read v x = refl
+  lock-enabled Write v x = refl
+
+  -- settling marks it where the side is enabled and the expression TRUE
+  settled-flag : (d : Drive) → flag (settleOf d) ≡ (flag d || holds (settleOf d))
+  unfolding flag holds settleOf settleRow conditionsOf
+  settled-flag d = rw (settle-at d band, lock-enabled side (valueAt d band) (rowAt d band)) (lock-column side (valueAt d band) (rowAt d band))
+
+  settled-already : (d : Drive) → Settled band d → (flag d || holds d) ≡ flag d
+  unfolding flag holds settleRow
+  settled-already d z = sym (lock-column side (valueAt d band) (rowAt d band)) ∙ ap (lockedOn side) z
+
+  ticks-flag : (n : ℕ) (d : Drive) → along (flag d) (tickMoments n d) ≡ flag (ticks tickOf n d)
+  unfolding along flagAfter tickMoments ticks unlocks locks tickOf flag holds
+  ticks-flag zero d = refl
+  ticks-flag (suc n) d = ap (λ (l : Bool). along l (tickMoments n (tickOf d))) (sym (settled-flag (fallOf d))) ∙ ticks-flag n (tickOf d)
+
+  -- ---- the end of an event
+
+  namesTo : ℕ → Event → Bool
+  namesTo v x = ownSet band (λ c bytes. namesLocked side v c) x
+
+  resets : Drive → Event → Bool
+  resets d x = resetWith (λ t. inSet (rowAt d band .«lock_on_reset») t && enabledOn side (rowAt d band)) x
+
+  -- a column that a Set names 0 or 1, or does not name
+  column : (g : Bool) (v : ℕ) (old : Bool) → within 1 g v ≡ true
+      → cond g (eqb v 1) old ≡ ((not (g && eqb v 0) && old) || ((g && eqb v 1) || false))
+  column false v old t = sym (or-false old)
+  column true zero old t = refl
+  column true (suc zero) old t = sym (or-true old)
+  column true (suc (suc n)) old t = absurd (omega (arith, leb-true (suc (suc n)) 1 t))
+
+  -- nothing granted is out of range
+  in-range : (l : List Bool) → eqb (lowest 1 l) 0 ≡ true → getD l 1 false ≡ false
+  in-range [] t = refl
+  in-range (p ∷ []) t = refl
+  in-range (true ∷ q ∷ l) t = absurd (false≢true t)
+  in-range (false ∷ true ∷ l) t = absurd (false≢true t)
+  in-range (false ∷ false ∷ l) t = refl
+
+  -- a granted Set names a Locked as 0 or 1
+  granted-fits : (d : Drive) (c : BandColumns) (bytes : List ℕ) (b : ℕ) → granted d (bandSet b c bytes) ≡ true
+      → within 1 (lockedNamed side c) (lockedValue side c) ≡ true
+  unfolding answerOf columnsFit
+  granted-fits d c bytes b t =
+      pick side (not-false (columnsFit c) (neither (not (columnsFit c)) (ltb 1024 (length bytes)) (in-range (refusals d (bandSet b c bytes)) t) .0))
+    where
+      pick : (s : Side) → columnsFit c ≡ true → within 1 (lockedNamed s c) (lockedValue s c) ≡ true
+      pick Read e = search (and-left, and-right)
+      pick Write e = search (and-left, and-right)
+
+  formed-column : (s : Side) (c : BandColumns) (bytes : List ℕ) (x : Row)
+      → lockedOn s (formedFrom c bytes x) ≡ cond (lockedNamed s c) (eqb (lockedValue s c) 1) (lockedOn s x)
+  unfolding formedRow
+  formed-column Read c bytes x = refl
+  formed-column Write c bytes x = refl
+
+  set-flag : (d : Drive) (b : ℕ) (c : BandColumns) (bytes : List ℕ) → band < length (d .rows) → granted d (bandSet b c bytes) ≡ true
+      → flag (actOf d (bandSet b c bytes)) ≡ ((not (namesTo 0 (bandSet b c bytes)) && flag d) || (namesTo 1 (bandSet b c bytes) || false))
+  unfolding flag namesTo actOf
+  set-flag d b c bytes h g = go (eqb b band) refl
+    where
+      go : (t : Bool) → eqb b band ≡ t
+          → lockedOn side (getD (modify (formedFrom c bytes) b (d .rows)) band freshRow)
+          ≡ ((not (t && namesLocked side 0 c) && flag d) || ((t && namesLocked side 1 c) || false))
+      go true e =
+          rw (eqb-true b band e, modify-same (formedFrom c bytes) freshRow (d .rows) band h, formed-column side c bytes (rowAt d band))
+          (column (lockedNamed side c) (lockedValue side c) (flag d) (granted-fits d c bytes b g))
+      go false e =
+          rw (modify-other (formedFrom c bytes) freshRow (d .rows) b band (λ q. eqb-false b band e (sym q))) (sym (or-false _))
+
+  reset-column : (s : Side) (t : ℕ) (x : Row) → lockedOn s (resetRow t x) ≡ (lockedOn s x || (inSet (x .«lock_on_reset») t && enabledOn s x))
+  unfolding resetRow
+  reset-column s t x = go (inSet (x .«lock_on_reset») t)
+    where
+      go : (i : Bool) → lockedOn s (cond i (lockUnder true x) x) ≡ (lockedOn s x || (i && enabledOn s x))
+      go true = lock-column s true x ∙ ap (λ (q : Bool). lockedOn s x || q) (and-true (enabledOn s x))
+      go false = sym (or-false _)
+
+  act-flag : (d : Drive) (x : Event) → band < length (d .rows) → granted d x ≡ true
+      → flag (actOf d x) ≡ ((not (namesTo 0 x) && flag (ticks tickOf (lengthOf x) d)) || (namesTo 1 x || resets d x))
+  unfolding actOf ticks namesTo resets flag
+  act-flag d (reading s v) h g = sym (or-false _)
+  act-flag d (elapse n) h g = sym (or-false _)
+  act-flag d (reset t) h g = rw (reset-at t d band) (reset-column side t (rowAt d band))
+  act-flag d (sensorSet s c) h g = sym (or-false _)
+  act-flag d (bandSet b c bytes) h g = set-flag d b c bytes h g
+  act-flag d (geometry b start n) h g = sym (or-false _)
+  act-flag d (transfer w start n) h g = sym (or-false _)
+
+  -- the moment at which an event ends, from the drive that its ticks leave
+  end-flag : (d : Drive) (x : Event) → band < length (d .rows) → Settled band d
+      → ((not (granted d x && namesTo 0 x) && flag (cond (granted d x) (ticks tickOf (lengthOf x) d) d))
+      || ((granted d x && namesTo 1 x) || ((granted d x && resets d x) || holds (stepOf d x)))) ≡ flag (stepOf d x)
+  unfolding stepOf
+  end-flag d x h z = go (granted d x) refl
+    where
+      go : (g : Bool) → granted d x ≡ g
+          → ((not (g && namesTo 0 x) && flag (cond g (ticks tickOf (lengthOf x) d) d))
+          || ((g && namesTo 1 x) || ((g && resets d x) || holds (cond g (settleOf (actOf d x)) d)))) ≡ flag (cond g (settleOf (actOf d x)) d)
+      go true e =
+          let l = not (namesTo 0 x) && flag (ticks tickOf (lengthOf x) d) in
+          let after = holds (settleOf (actOf d x)) in
+          ap (λ (q : Bool). l || q) (sym (or-assoc (namesTo 1 x) (resets d x) after))
+          ∙ sym (or-assoc l (namesTo 1 x || resets d x) after)
+          ∙ ap (λ (q : Bool). q || after) (sym (act-flag d x h e))
+          ∙ sym (settled-flag (actOf d x))
+      go false e = settled-already d z
+
+  events-flag : (d : Drive) (x : Event) → along (flag d) (cond (granted d x) (tickMoments (lengthOf x) d) []) ≡ flag (cond (granted d x) (ticks tickOf (lengthOf x) d) d)
+  unfolding along flagAfter
+  events-flag d x = go (granted d x)
+    where
+      go : (g : Bool) → along (flag d) (cond g (tickMoments (lengthOf x) d) []) ≡ flag (cond g (ticks tickOf (lengthOf x) d) d)
+      go true = ticks-flag (lengthOf x) d
+      go false = refl
+
+  run-flag : (es : List Event) (d : Drive) → band < length (d .rows) → Settled band d → along (flag d) (moments d es) ≡ flag (runOf d es)
+  unfolding along flagAfter moments runOf unlocks locks namesTo resets holds
+  run-flag [] d h z = refl
+  run-flag (x ∷ es) d h z =
+      after-append (unlocks side band) (locks side band) (flag d) (cond (granted d x) (tickMoments (lengthOf x) d) []) _
+      ∙ ap (λ (l : Bool). along l (record { cause = ended x; before = d; after = stepOf d x } ∷ moments (stepOf d x) es)) (events-flag d x)
+      ∙ ap (λ (l : Bool). along l (moments (stepOf d x) es)) (end-flag d x h z)
+      ∙ run-flag es (stepOf d x) (rw (rows-long d x) h) (step-settled band d x z)
+
+-- ---- the rule
+
+module _ (capacity bands sensors band : ℕ) (present : band < 16) (side : Side) where
+  fresh-flag : flag side band (freshDrive capacity bands sensors) ≡ false
+  unfolding flag freshRow
+  fresh-flag = ap (lockedOn side) (fresh-at capacity bands sensors band) ∙ go side
+    where
+      go : (s : Side) → lockedOn s freshRow ≡ false
+      go Read = refl
+      go Write = refl
+
+  fresh-present : band < length (freshDrive capacity bands sensors .rows)
+  unfolding freshDrive
+  fresh-present = present
+
+  pub history : (es : List Event) → (lockedOn side (rowAt (runOf (freshDrive capacity bands sensors) es) band) ≡ true)
+      ↔ LockedByHistory side band (moments (freshDrive capacity bands sensors) es)
+  unfolding flag along Last
+  history es = (λ t. there (to-last clear mark start ms (same ∙ t)), λ q. sym same ∙ back q)
+    where
+      clear : Moment → Bool
+      clear m = unlocks side band m
+
+      mark : Moment → Bool
+      mark m = locks side band m
+
+      start : Bool
+      start = flag side band (freshDrive capacity bands sensors)
+
+      ms : List Moment
+      ms = moments (freshDrive capacity bands sensors) es
+
+      same : flagAfter clear mark start ms ≡ flag side band (runOf (freshDrive capacity bands sensors) es)
+      same = run-flag side band es (freshDrive capacity bands sensors) fresh-present (fresh-settled capacity bands sensors band)
+
+      there : ((start ≡ true) × (any clear ms ≡ false)) ⊎ Last clear mark ms → LockedByHistory side band ms
+      there (inl (u, n)) = absurd (false≢true (sym fresh-flag ∙ u))
+      there (inr (a, m, c, e, k, n)) = record { earlier = a; moment = m; later = c; order = e; locking = k; last = n }
+
+      back : LockedByHistory side band ms → flagAfter clear mark start ms ≡ true
+      back q = from-last clear mark start ms (q .earlier, q .moment, q .later, q .order, q .locking, q .last)

@@ -1,0 +1,7 @@
+pub mod Agree
+pub mod Strike
+pub mod Isolation
+pub mod History
+pub mod Condition
+pub mod Corollaries
+pub mod Examples
