@@ -5,20 +5,20 @@ use native.Mathlib.Omega.{arith}
 use mathlib.Core.Bool.{Bool, true, false, cond}
 use mathlib.Core.List.{List, [], _∷_, _++_}
 use lib.Dec.{ltb, eqb}
-use lib.ListN.{length, take, drop, set, length-set, length-append}
+use lib.ListN.{length, take, set, length-set, length-append}
 use Rattle.base.specs.Lists.{oneIf, count}
 use Rattle.answer.specs.Numbers.{numberOf}
 use Rattle.drive.specs.declared.Drive.{Drive}
 use Rattle.drive.specs.declared.Reply.{Reply}
 use Rattle.drive.specs.Events.{Event, reading, elapse, reset, sensorSet, bandSet, geometry, transfer, eventOf, answerOf, elapsedStops, stopsOf, stepOf, runOf, Replies}
-use Rattle.sensor.specs.Single.{runs, loweredBy}
+use Rattle.sensor.specs.Single.{runs}
 use Rattle.elapse.proofs.Calm.{stops-few}
 use Rattle.script.specs.declared.EventRead.{EventRead}
 use Rattle.script.specs.declared.EventRead.the-variants as R
 use Rattle.script.specs.Fields.{Parsed, event, broken, parsedIn, tokensAt, eventAt}
 use Rattle.script.specs.Whole.{Events, events, badFrom, before, andThen, eventsIn, eventsFrom}
 use Rattle.run.specs.declared.Turn.{Turn}
-use Rattle.run.specs.Outcome.{Turned, turned, turnIn, turnOf, along, answersOf, stopsIn, over, Went, Goes}
+use Rattle.run.specs.Outcome.{turned, turnIn, turnOf, along, over, Went, Goes}
 
 -- ---- one event
 
@@ -88,6 +88,7 @@ first-event (suc k) s at e rest h = go (ltb at (length s)) (eventAt s at) refl h
     follow : (x : Event) (n : ℕ) (o : Events) → eventAt s at ≡ event x n → eventsIn k s n ≡ o → before x o ≡ events (e ∷ rest) → First s at e rest
     follow x n (events es) p q h = let y : x ≡ e = cc in let z : es ≡ rest = cc in record { next = n; left = k; here = p ∙ ap (λ x. event x n) y; after = q ∙ ap events z }
     follow x n (badFrom b) p q h = let z : _≡_ {A = ℕ} 0 1 = cc in absurd (omega arith)
+
     go : (t : Bool) (p : Parsed) → eventAt s at ≡ p → cond t (andThen at p (λ n. eventsIn k s n)) (events []) ≡ events (e ∷ rest) → First s at e rest
     go true (event x n) p h = follow x n (eventsIn k s n) p refl h
     go true broken p h = let z : _≡_ {A = ℕ} 0 1 = cc in absurd (omega arith)
@@ -197,6 +198,7 @@ stops-most d e = by (eqb (answerOf d e) 0) e
     elapsed (bandSet b c bytes) = omega arith
     elapsed (geometry b start n) = omega arith
     elapsed (transfer w start n) = omega arith
+
     by : (t : Bool) (e : Event) → cond t (elapsedStops d e) 0 ≤ length (d .sensors)
     by true e = elapsed e
     by false e = omega arith

@@ -4,7 +4,7 @@ ghost use Prim.Native.Nat.{_≤_};
 ghost use lib.ListN.{length};
 ghost use Rattle.script.specs.Fields.{eventAt};
 ghost use Rattle.script.specs.Whole.{readScript};
-ghost use Rattle.run.specs.Outcome.{turnIn, turnOf, Goes};
+ghost use Rattle.run.specs.Outcome.{turnIn, turnOf, Goes, fewerOf, Refuses, RunsFirst, outcomeIn, runScript};
 use answer::Answer;
 use drive::Drive;
 use script::Checked;
@@ -62,7 +62,14 @@ fn run_event(script: &[u8], at: usize, drive: Drive) -> Turn
 }
 
 // Runs so many events from a place on, and writes a byte for each into both buffers.
-fn run_events(script: &[u8], start: usize, count: usize, fresh: Drive, answers: &mut [u8], stops: &mut [u8]) -> Drive
+fn run_events(
+    script: &[u8],
+    start: usize,
+    count: usize,
+    fresh: Drive,
+    answers: &mut [u8],
+    stops: &mut [u8],
+) -> Drive
     requires { ⌜ (count ≤ length (now answers)) × (count ≤ length (now stops)) ⌝ }
     ensures { λ r. ⌜ Goes (now (script .entry)) start count fresh (now (answers .entry)) (now (stops .entry)) r (now (answers .exit)) (now (stops .exit)) ⌝ }
 {
@@ -79,4 +86,62 @@ fn run_events(script: &[u8], start: usize, count: usize, fresh: Drive, answers: 
         i += 1;
     }
     drive
+}
+
+// How many events to run: those asked for, or all where there are fewer.
+fn fewer(all: usize, most: u64) -> usize
+    ensures { λ r. ⌜ r ≡ fewerOf all most ⌝ }
+{
+    if most < (all as u64) {
+        return most as usize;
+    }
+    all
+}
+
+// A run that is refused: no event is run.
+fn refused(answer: Answer, place: usize) -> Ran
+    ensures { λ r. ⌜ Refuses answer place r ⌝ }
+{
+    let made = Drive::fresh(1, 1, 0);
+    let drive = made.drive;
+    Ran {
+        answer,
+        place,
+        count: 0,
+        drive,
+    }
+}
+
+// Runs so many events of a script that reads to its end.
+fn run_first(script: &[u8], count: usize, answers: &mut [u8], stops: &mut [u8]) -> Ran
+    ensures { λ r. ⌜ RunsFirst (now (script .entry)) count (now (answers .entry)) (now (stops .entry)) r (now (answers .exit)) (now (stops .exit)) ⌝ }
+{
+    if answers.len() < count {
+        return refused(Answer::ShortBuffer, 0);
+    }
+    if stops.len() < count {
+        return refused(Answer::ShortBuffer, 0);
+    }
+    let HeaderRead::Is(capacity, bands, sensors, at) = script::header_at(script) else {
+        return refused(Answer::BadScript, 0);
+    };
+    let made = Drive::fresh(capacity, bands, sensors);
+    let fresh = made.drive;
+    let drive = run_events(script, at, count, fresh, answers, stops);
+    Ran {
+        answer: Answer::Done,
+        place: 0,
+        count,
+        drive,
+    }
+}
+
+// Runs the first events of a script, at most so many, and writes the answer and the stops of each into the two buffers.
+pub fn run(script: &[u8], most: u64, answers: &mut [u8], stops: &mut [u8]) -> Ran
+    ensures { λ r. ⌜ outcomeIn r (now (answers .exit)) (now (stops .exit)) ≡ runScript (readScript (now (script .entry))) most (now (answers .entry)) (now (stops .entry)) ⌝ }
+{
+    match script::check(script) {
+        Checked::Reads(all) => run_first(script, fewer(all, most), answers, stops),
+        Checked::BadAt(place) => refused(Answer::BadScript, place),
+    }
 }

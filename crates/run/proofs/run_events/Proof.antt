@@ -1,6 +1,4 @@
 use Rattle.run.proofs.Going.{Going, go-begin, go-again, go-done}
-use mathlib.Core.Path.{_∙_}
-use lib.ListN.{length-set}
 use Prim.Native.Nat.{_-_}
 use borrow.Author.Needs.{needs}
 use Rattle.run.proofs.run_events.Statement.{statement}
