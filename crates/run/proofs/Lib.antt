@@ -1,2 +1,3 @@
 pub mod Going
 pub mod Whole
+pub mod Holding

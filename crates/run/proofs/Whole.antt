@@ -36,7 +36,7 @@ few-taken zero l h = refl
 few-taken (suc n) [] h = absurd (omega (arith, h))
 few-taken (suc n) (x ∷ l) h = ap suc (few-taken n l (omega (arith, h)))
 
-all-taken : {A : Type 0} (n : ℕ) (l : List A) → length l ≤ n → take n l ≡ l
+pub all-taken : {A : Type 0} (n : ℕ) (l : List A) → length l ≤ n → take n l ≡ l
 all-taken zero [] h = refl
 all-taken zero (x ∷ l) h = absurd (omega (arith, h))
 all-taken (suc n) [] h = refl

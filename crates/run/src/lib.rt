@@ -4,6 +4,7 @@ ghost use Prim.Native.Nat.{_≤_};
 ghost use lib.ListN.{length};
 ghost use Rattle.script.specs.Fields.{eventAt};
 ghost use Rattle.script.specs.Whole.{readScript};
+ghost use Rattle.run.specs.Holds.{Holds};
 ghost use Rattle.run.specs.Outcome.{turnIn, turnOf, Goes, fewerOf, Refuses, RunsFirst, outcomeIn, runScript};
 use answer::Answer;
 use drive::Drive;
@@ -139,6 +140,7 @@ fn run_first(script: &[u8], count: usize, answers: &mut [u8], stops: &mut [u8]) 
 // Runs the first events of a script, at most so many, and writes the answer and the stops of each into the two buffers.
 pub fn run(script: &[u8], most: u64, answers: &mut [u8], stops: &mut [u8]) -> Ran
     ensures { λ r. ⌜ outcomeIn r (now (answers .exit)) (now (stops .exit)) ≡ runScript (readScript (now (script .entry))) most (now (answers .entry)) (now (stops .entry)) ⌝ }
+    ensures condition { λ r. ⌜ Holds (now (script .entry)) most r (now (answers .exit)) ⌝ }
 {
     match script::check(script) {
         Checked::Reads(all) => run_first(script, fewer(all, most), answers, stops),

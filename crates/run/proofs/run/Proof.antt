@@ -1,4 +1,5 @@
 use Rattle.run.proofs.Whole.{bad-script, script-run}
+use Rattle.run.proofs.Holding.{bad-holds, run-holds}
 use borrow.Author.Needs.{needs}
 use Rattle.run.proofs.run.Statement.{statement}
 use Rattle.run.proofs.run.Tie as tie
@@ -28,10 +29,10 @@ same-length-2 : tie.Need-same-length-2
 same-length-2 c = search needs
 
 returns : tie.Need-returns
-returns c = search script-run
+returns c = (search script-run, search run-holds)
 
 returns-2 : tie.Need-returns-2
-returns-2 c = search bad-script
+returns-2 c = (search bad-script, search bad-holds)
 
 pub run-spec : {M : Type 1} → statement M
 run-spec =

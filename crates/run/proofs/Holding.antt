@@ -1,0 +1,87 @@
+-- Condition 3 of a run, from what the run hands back.
+use mathlib.Core.Path.{_≡_, refl, sym, ap, _∙_, subst}
+use Prim.Native.Nat.{ℕ}
+use native.Mathlib.Omega.{arith}
+use mathlib.Core.Logic.{_↔_}
+use mathlib.Core.Bool.{Bool, true, false, cond, _&&_}
+use mathlib.Core.List.{List, [], _∷_, _++_}
+use lib.Dec.{leb}
+use lib.ListN.{length}
+use Rattle.answer.specs.Numbers.{numberOf}
+use Rattle.band.specs.Rows.{lockedOn}
+use Rattle.drive.specs.declared.Drive.{Drive}
+use Rattle.drive.specs.State.{freshDrive, rowAt, valueAt}
+use Rattle.drive.specs.Events.{Event, answerOf, stepOf, runOf}
+use Rattle.condition.specs.History.{ownSet, moments, LockedByHistory}
+use Rattle.condition.specs.Compared.{answersTo}
+use Rattle.condition.proofs.Condition.{condition-3}
+use Rattle.answer.specs.declared.Answer.the-variants.{BadScript}
+use Rattle.script.specs.declared.Checked.{Checked}
+use Rattle.script.specs.declared.Checked.the-variants as C
+use Rattle.script.specs.Whole.{Script, readScript, checkedIn, checkOf}
+use Rattle.run.specs.declared.Ran.{Ran}
+use Rattle.run.specs.Outcome.{along, answersOf, stopsIn, over, outcome, outcomeIn, refusedRun, runEvents, runScript, fewerOf, Refuses, RunsFirst}
+use Rattle.run.specs.Holds.{ownAnswers, RanWhole, Holds}
+use Rattle.run.proofs.Whole.{all-taken, accepted-is, bad-script, script-run}
+
+-- the answers written to a band's Sets are the answers to its Sets
+own-written : (band : ℕ) (d : Drive) (es : List Event) (rest : List ℕ) → ownAnswers band es (along answerOf d es ++ rest) ≡ answersTo band d es
+unfolding ownAnswers along answersTo
+own-written band d [] rest = refl
+own-written band d (e ∷ es) rest = ap (λ l. cond (ownSet band (λ c tokens. true) e) (answerOf d e ∷ l) l) (own-written band (stepOf d e) es rest) ∙ front (ownSet band (λ c tokens. true) e) (answerOf d e) (answersTo band (stepOf d e) es)
+  where
+    front : (t : Bool) (x : ℕ) (l : List ℕ) → cond t (x ∷ l) l ≡ cond t (x ∷ []) [] ++ l
+    front true x l = refl
+    front false x l = refl
+
+-- a whole run's drive and the answers that it wrote
+pub record Ended (r : Ran) (answers answers' : List ℕ) (fresh : Drive) (es : List Event) : Type 0 where
+  pub drive-is : r .drive ≡ runOf fresh es
+  pub answers-are : answers' ≡ over (answersOf fresh es) answers
+
+module _ (s : List ℕ) (most : ℕ) (answers stops : List ℕ) (r : Ran) (answers' stops' : List ℕ)
+    (o : outcomeIn r answers' stops' ≡ runScript (readScript s) most answers stops) where
+  pub ended : (capacity bands sensors : ℕ) (es : List Event) → RanWhole s most r capacity bands sensors es → Ended r answers answers' (freshDrive capacity bands sensors) es
+  ended capacity bands sensors es w = go (leb (length es) (length answers) && leb (length es) (length stops)) whole
+    where
+      fresh : Drive
+      fresh = freshDrive capacity bands sensors
+
+      whole : outcomeIn r answers' stops' ≡ runEvents (freshDrive capacity bands sensors) es answers stops
+      whole = o ∙ ap (λ (x : Script). runScript x most answers stops) (w .reads) ∙ ap (λ (l : List Event). runEvents (freshDrive capacity bands sensors) l answers stops) (all-taken most es (w .all))
+
+      go : (t : Bool) → outcomeIn r answers' stops' ≡ cond t (outcome 0 0 (length es) (runOf (freshDrive capacity bands sensors) es) (over (answersOf (freshDrive capacity bands sensors) es) answers) (over (stopsIn (freshDrive capacity bands sensors) es) stops)) (refusedRun 11 0 answers stops)
+          → Ended r answers answers' (freshDrive capacity bands sensors) es
+      go true h = record { drive-is = cc; answers-are = cc }
+      go false h = let n : numberOf (r .answer) ≡ 11 = cc in absurd (omega (arith, n, w .done))
+
+  pub own-are : (band capacity bands sensors : ℕ) (es : List Event) → RanWhole s most r capacity bands sensors es → ownAnswers band es answers' ≡ answersTo band (freshDrive capacity bands sensors) es
+  own-are band capacity bands sensors es w =
+      ap (ownAnswers band es) (ended capacity bands sensors es w .answers-are) ∙ own-written band (freshDrive capacity bands sensors) es _
+
+  pub holds : Holds s most r answers'
+  holds = record {
+    isolation = λ t capacity bands sensors es fs w q band b c.
+        let d = ended capacity bands sensors es w .drive-is in
+        let f = accepted-is s capacity bands sensors es (w .reads) .fits in
+        let same = condition-3 .isolation capacity bands sensors f band b es fs c in
+        record {
+          row = ap (λ (x : Drive). rowAt x band) d ∙ same .row;
+          value = ap (λ (x : Drive). valueAt x band) d ∙ same .value;
+          own = own-are band capacity bands sensors es w ∙ same .answers;
+        };
+    history = λ capacity bands sensors es w band b side.
+        let d = ended capacity bands sensors es w .drive-is in
+        let f = accepted-is s capacity bands sensors es (w .reads) .fits in
+        subst (λ (x : Drive). (lockedOn side (rowAt x band) ≡ true) ↔ LockedByHistory side band (moments (freshDrive capacity bands sensors) es)) (sym d) (condition-3 .history capacity bands sensors f band b side es);
+  }
+
+-- ---- the arms of the run
+
+module _ (s : List ℕ) (most : ℕ) (answers stops : List ℕ) (k : Checked) (e : checkedIn k ≡ checkOf s) where
+  pub bad-holds : (place : ℕ) (r : Ran) → k ≡ C.BadAt place → Refuses BadScript place r → Holds s most r answers
+  bad-holds place r q p = holds s most answers stops r answers stops (bad-script s most answers stops k e place r q p)
+
+  pub run-holds : (all count : ℕ) (r : Ran) (answers' stops' : List ℕ) → k ≡ C.Reads all → count ≡ fewerOf all most
+      → RunsFirst s count answers stops r answers' stops' → Holds s most r answers'
+  run-holds all count r answers' stops' q c p = holds s most answers stops r answers' stops' (script-run s most answers stops k e all count r answers' stops' q c p)
