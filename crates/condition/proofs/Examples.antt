@@ -7,7 +7,7 @@ use Rattle.base.specs.Lists.{any}
 use Rattle.base.specs.Ticks.{ticks}
 use Rattle.phases.specs.Phases.{moveOf}
 use Rattle.sensor.specs.Level.{levelRule}
-use Rattle.sensor.specs.Single.{freshSensor, judgeOf, turnedTo, readingOf, enableOf, disableOf, powerCycleOf}
+use Rattle.sensor.specs.Single.{freshSensor, judgeOf, turnedTo, readingOf, enableOf}
 use Rattle.sensor.specs.Single.{stepOf as sensorStep, tickOf as sensorTick}
 use Rattle.sensor.specs.Columns.{storedOf, switchedOf, setOf}
 use Rattle.sensor.specs.Columns.{columnsFit as sensorColumnsFit}
@@ -21,13 +21,12 @@ use Rattle.band.specs.Rows.{freshRow, lockedOn, settleRow, resetRow}
 use Rattle.band.specs.Sets.{formedRow}
 use Rattle.band.specs.Sets.{columnsFit as bandColumnsFit}
 use Rattle.geometry.specs.Blocks.{anyBlock, bandOf}
-use Rattle.geometry.specs.Events.{noSpan}
 use Rattle.drive.specs.declared.Drive.{Drive}
 use Rattle.drive.specs.State.{freshDrive, rowAt, conditionsOf, settleOf, tickOf}
 use Rattle.drive.specs.Events.{Event, reading, elapse, reset, sensorSet, bandSet, geometry, transfer, answerOf, actOf, stepOf, runOf}
 use Rattle.condition.specs.History.{tickMoments, moments, unlocks, locks}
 use Rattle.condition.specs.Compared.{refersIn, namedIn, stays, keep, compared, answersTo}
-use Rattle.condition.proofs.History.{flagAfter}
+use Rattle.condition.proofs.Flags.{flagAfter}
 
 -- ---- the events
 
@@ -111,7 +110,7 @@ abbrev told : Side → ℕ → List Event → Bool × Bool
 told side band es =
     (flagAfter (unlocks side band) (locks side band) false (moments fresh es), lockedOn side (rowAt (runOf fresh es) band))
 
-pub record Worked : Type 0 where
+record Worked : Type 0 where
   -- its own Sets, the events of the sensor that it names, and the elapse stay; geometry and transfers do not
   script-list : compared 1 script ≡ sensorOn 0 3 ∷ bandOn 1 0x21 1 0 rowZero ∷ reading 0 5000 ∷ elapse 5 ∷ bandOn 1 4 0 0 [] ∷ []
   script-answers : answersTo 1 fresh script ≡ 0 ∷ 8 ∷ []
@@ -126,6 +125,10 @@ pub record Worked : Type 0 where
   reset-read : told Read 0 (enableRead ∷ reset 0 ∷ []) ≡ (true, true)
   reset-write : told Write 0 (enableRead ∷ reset 0 ∷ []) ≡ (false, false)
   no-reset : told Read 0 (enableRead ∷ reset 1 ∷ []) ≡ (false, false)
+  -- without the reset, the Set or the reading the side stays open: none of them may be struck
+  needs-reset : told Read 0 (enableRead ∷ []) ≡ (false, false)
+  needs-set : told Read 0 (reset 0 ∷ []) ≡ (false, false)
+  needs-reading : told Read 1 (sensorOn 0 3 ∷ bandOn 1 0x21 1 0 rowZero ∷ elapse 5 ∷ []) ≡ (false, false)
   -- a granted unlock counts, and a refused one does not
   unlocked : told Read 0 (lockRead ∷ unlockRead ∷ []) ≡ (false, false)
   refused : told Read 0 (lockRead ∷ badUnlock ∷ []) ≡ (true, true)
@@ -136,7 +139,7 @@ pub record Worked : Type 0 where
   no-tokens : compared 1 (bandOn 1 32 0 0 (0 ∷ rowZero) ∷ reading 0 7 ∷ []) ≡ bandOn 1 32 0 0 (0 ∷ rowZero) ∷ []
 
 worked : Worked
-unfolding any ticks moveOf levelRule freshSensor judgeOf turnedTo readingOf enableOf disableOf powerCycleOf sensorStep sensorTick storedOf switchedOf setOf sensorColumnsFit conditionsBelow evaluate valueOf mentions startsWith partIn isEnd readElements readList readTokens freshRow settleRow resetRow formedRow bandColumnsFit anyBlock bandOf noSpan freshDrive conditionsOf settleOf tickOf answerOf actOf stepOf runOf tickMoments moments unlocks locks refersIn namedIn stays keep compared answersTo flagAfter
+unfolding any ticks moveOf levelRule freshSensor judgeOf turnedTo readingOf enableOf sensorStep sensorTick storedOf switchedOf setOf sensorColumnsFit conditionsBelow evaluate valueOf mentions startsWith partIn isEnd readElements readList readTokens freshRow settleRow resetRow formedRow bandColumnsFit anyBlock bandOf freshDrive conditionsOf settleOf tickOf answerOf actOf stepOf runOf tickMoments moments unlocks locks refersIn namedIn stays keep compared answersTo flagAfter
 worked = record {
   script-list = refl;
   script-answers = refl;
@@ -148,6 +151,9 @@ worked = record {
   reset-read = refl;
   reset-write = refl;
   no-reset = refl;
+  needs-reset = refl;
+  needs-set = refl;
+  needs-reading = refl;
   unlocked = refl;
   refused = refl;
   refused-names = refl;

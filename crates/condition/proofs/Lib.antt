@@ -1,3 +1,4 @@
+pub mod Flags
 pub mod Agree
 pub mod Strike
 pub mod Isolation
