@@ -14,19 +14,31 @@ const MOST: u64 = 18_446_744_073_709_551_615;
 // Sensor 0, and the same with NOT.
 const A: [u8; 14] = *b"\xF0\xF2\xA4\x00\x00\x0C\x0E\xA4\x00\x00\x00\x00\xF3\xF1";
 
-const NOT_A: [u8; 22] = *b"\xF0\xF2\xA4\x00\x00\x0C\x0E\xA4\x00\x00\x00\x00\xF3\xF2\xA4\x00\x00\x04\x0E\x02\xF3\xF1";
+const NOT_A: [u8; 22] =
+    *b"\xF0\xF2\xA4\x00\x00\x0C\x0E\xA4\x00\x00\x00\x00\xF3\xF2\xA4\x00\x00\x04\x0E\x02\xF3\xF1";
 
 // Sensors 0 and 1: 0 1 NOT AND.
-const A_AND_NOT_B: [u8; 42] = *b"\xF0\xF2\xA4\x00\x00\x0C\x0E\xA4\x00\x00\x00\x00\xF3\xF2\xA4\x00\x00\x0C\x0E\xA4\x00\x00\x00\x01\xF3\
+const A_AND_NOT_B: [u8; 42] =
+    *b"\xF0\xF2\xA4\x00\x00\x0C\x0E\xA4\x00\x00\x00\x00\xF3\xF2\xA4\x00\x00\x0C\x0E\xA4\x00\x00\x00\x01\xF3\
 \xF2\xA4\x00\x00\x04\x0E\x02\xF3\xF2\xA4\x00\x00\x04\x0E\x00\xF3\xF1";
 
 // Sensor 15.
 const P: [u8; 14] = *b"\xF0\xF2\xA4\x00\x00\x0C\x0E\xA4\x00\x00\x00\x0F\xF3\xF1";
 
-// NOT of row 99, which is TRUE on every drive, and no elements, which is FALSE.
-const ALWAYS: [u8; 22] = *b"\xF0\xF2\xA4\x00\x00\x0C\x0E\xA4\x00\x00\x00\x63\xF3\xF2\xA4\x00\x00\x04\x0E\x02\xF3\xF1";
+// NOT of row 99, which is TRUE on every drive.
+const ALWAYS: [u8; 22] =
+    *b"\xF0\xF2\xA4\x00\x00\x0C\x0E\xA4\x00\x00\x00\x63\xF3\xF2\xA4\x00\x00\x04\x0E\x02\xF3\xF1";
 
-const NEVER: [u8; 2] = *b"\xF0\xF1";
+// The bytes that a band Set names; the last is cut short.
+enum Text {
+    A,
+    NotA,
+    AAndNotB,
+    P,
+    Always,
+    Never,
+    Cut,
+}
 
 // A drive, and the number of events that it has had.
 struct Run {
@@ -170,10 +182,7 @@ fn begin(title: &[u8], capacity: u64, bands: u64, sensors: u64) -> Run {
     print(b"\n");
     let fresh = Drive::fresh(capacity, bands, sensors);
     let drive = fresh.drive;
-    Run {
-        drive,
-        events: 0,
-    }
+    Run { drive, events: 0 }
 }
 
 impl Run {
@@ -235,6 +244,23 @@ impl Run {
         self.set_sensor(sensor, 91, 1, 5, on_timeout, 5, off_timeout)
     }
 
+    fn set_tokens(self, band: u64, columns: BandColumns, tokens: &[u8]) -> Run {
+        let drive = self.drive;
+        self.after(events::set_band(drive, band, columns, tokens))
+    }
+
+    fn set_text(self, band: u64, columns: BandColumns, text: Text) -> Run {
+        match text {
+            Text::A => self.set_tokens(band, columns, &A),
+            Text::NotA => self.set_tokens(band, columns, &NOT_A),
+            Text::AAndNotB => self.set_tokens(band, columns, &A_AND_NOT_B),
+            Text::P => self.set_tokens(band, columns, &P),
+            Text::Always => self.set_tokens(band, columns, &ALWAYS),
+            Text::Never => self.set_tokens(band, columns, b"\xF0\xF1"),
+            Text::Cut => self.set_tokens(band, columns, b"\xF0"),
+        }
+    }
+
     fn set_band(
         self,
         band: u64,
@@ -244,9 +270,8 @@ impl Run {
         read_locked: u64,
         write_locked: u64,
         lock_on_reset: u64,
-        tokens: &[u8],
+        text: Text,
     ) -> Run {
-        let drive = self.drive;
         let columns = band_columns(
             mask,
             read_lock_enabled,
@@ -255,7 +280,7 @@ impl Run {
             write_locked,
             lock_on_reset,
         );
-        self.after(events::set_band(drive, band, columns, tokens))
+        self.set_text(band, columns, text)
     }
 
     // A Set that does not name the expression.
@@ -269,16 +294,15 @@ impl Run {
         write_locked: u64,
         lock_on_reset: u64,
     ) -> Run {
-        self.set_band(
-            band,
+        let columns = band_columns(
             mask,
             read_lock_enabled,
             write_lock_enabled,
             read_locked,
             write_locked,
             lock_on_reset,
-            b"",
-        )
+        );
+        self.set_tokens(band, columns, b"")
     }
 
     // Both lock columns of the read side, or of the write side.
@@ -309,9 +333,10 @@ impl Run {
         self.after(events::transfer(drive, direction, start, count))
     }
 
-    fn apply(self, kind: Kind, tokens: &[u8]) -> Run {
+    // Any event, with the bytes of A, at which only a band Set looks.
+    fn apply(self, kind: Kind) -> Run {
         let drive = self.drive;
-        self.after(events::apply(drive, kind, tokens))
+        self.after(events::apply(drive, kind, &A))
     }
 
     fn end(self) {
@@ -325,7 +350,7 @@ impl Run {
 fn worked() {
     let r = begin(b"worked", 1_000, 2, 1);
     let r = r.set_sensor(0, 27, 1, 5, 3, 5, 0);
-    let r = r.set_band(1, 33, 1, 0, 0, 0, 0, &A);
+    let r = r.set_band(1, 33, 1, 0, 0, 0, 0, Text::A);
     let r = r.set_geometry(1, 100, 50);
     let r = r.reading(0, 5_000);
     let r = r.elapse(5);
@@ -338,21 +363,21 @@ fn worked() {
 // The same by apply, and then a reset.
 fn applied() {
     let r = begin(b"applied", 1_000, 2, 1);
-    let r = r.apply(Kind::SensorSet(0, sensor_columns(27, 1, 5, 3, 5, 0)), b"");
-    let r = r.apply(Kind::BandSet(1, band_columns(33, 1, 0, 0, 0, 0)), &A);
-    let r = r.apply(Kind::Geometry(1, 100, 50), &A);
-    let r = r.apply(Kind::Reading(0, 5_000), b"");
+    let r = r.apply(Kind::SensorSet(0, sensor_columns(27, 1, 5, 3, 5, 0)));
+    let r = r.apply(Kind::BandSet(1, band_columns(33, 1, 0, 0, 0, 0)));
+    let r = r.apply(Kind::Geometry(1, 100, 50));
+    let r = r.apply(Kind::Reading(0, 5_000));
     let r = applied_last(r);
     r.end();
 }
 
 fn applied_last(r: Run) -> Run {
-    let r = r.apply(Kind::Elapse(5), b"");
-    let r = r.apply(Kind::Transfer(0, 99, 2), b"");
-    let r = r.apply(Kind::Transfer(1, 99, 2), b"\xF0");
-    let r = r.apply(Kind::BandSet(1, band_columns(4, 0, 0, 0, 0, 0)), b"");
-    let r = r.apply(Kind::Reset(0), b"");
-    r.apply(Kind::BandSet(1, band_columns(4, 0, 0, 0, 0, 0)), b"")
+    let r = r.apply(Kind::Elapse(5));
+    let r = r.apply(Kind::Transfer(0, 99, 2));
+    let r = r.apply(Kind::Transfer(1, 99, 2));
+    let r = r.apply(Kind::BandSet(1, band_columns(4, 0, 0, 0, 0, 0)));
+    let r = r.apply(Kind::Reset(0));
+    r.apply(Kind::BandSet(1, band_columns(4, 0, 0, 0, 0, 0)))
 }
 
 // 'a AND NOT b' with timers 3 and 5.
@@ -360,7 +385,7 @@ fn two_timers(title: &[u8]) -> Run {
     let r = begin(title, 100, 2, 2);
     let r = r.enable(0, 3, 0);
     let r = r.enable(1, 5, 0);
-    let r = r.set_band(1, 33, 1, 0, 0, 0, 0, &A_AND_NOT_B);
+    let r = r.set_band(1, 33, 1, 0, 0, 0, 0, Text::AAndNotB);
     let r = r.reading(0, 5_000);
     r.reading(1, 5_000)
 }
@@ -445,13 +470,13 @@ fn global_locked() {
 // A band under a TRUE expression, and a Set with more and more of it right.
 fn band_precedence() {
     let r = begin(b"band Set refusals in order", 1_000, 2, 1);
-    let r = r.set_band(1, 33, 1, 0, 0, 0, 0, &ALWAYS);
-    let r = r.set_band(2, 63, 2, 2, 0, 0, 8, b"\xF0");
-    let r = r.set_band(1, 63, 2, 0, 0, 0, 0, b"\xF0");
-    let r = r.set_band(1, 36, 0, 0, 0, 0, 0, b"\xF0");
+    let r = r.set_band(1, 33, 1, 0, 0, 0, 0, Text::Always);
+    let r = r.set_band(2, 63, 2, 2, 0, 0, 8, Text::Cut);
+    let r = r.set_band(1, 63, 2, 0, 0, 0, 0, Text::Cut);
+    let r = r.set_band(1, 36, 0, 0, 0, 0, 0, Text::Cut);
     let r = too_long(r);
     let r = r.unlock_read(1);
-    let r = r.set_band(1, 36, 0, 0, 0, 0, 0, &NEVER);
+    let r = r.set_band(1, 36, 0, 0, 0, 0, 0, Text::Never);
     r.end();
 }
 
@@ -461,7 +486,7 @@ fn too_long(r: Run) -> Run {
     let mut tokens = [0; 258];
     token_writer::write(&codes, &mut tokens);
     tokens[257] = 0xF2;
-    r.set_band(1, 36, 0, 0, 0, 0, 0, &tokens)
+    r.set_tokens(1, band_columns(36, 0, 0, 0, 0, 0), &tokens)
 }
 
 // Each column above its range, and at it.
@@ -478,7 +503,7 @@ fn band_ranges() {
 }
 
 fn band_numbers(r: Run) -> Run {
-    let r = r.set_band(15, 0, MOST, MOST, MOST, MOST, MOST, b"\xF0");
+    let r = r.set_band(15, 0, MOST, MOST, MOST, MOST, MOST, Text::Cut);
     let r = r.set_locks(16, 0, 0, 0, 0, 0, 0);
     let r = r.set_locks(MOST, 31, MOST, MOST, MOST, MOST, MOST);
     r.set_locks(4_294_967_296, 4, 0, 0, 1, 0, 0)
@@ -488,7 +513,7 @@ fn band_numbers(r: Run) -> Run {
 fn outside_a_script() {
     let r = begin(b"band Set outside a script", 1_000, 1, 0);
     let r = r.set_locks(0, 64, 0, 0, 0, 0, 0);
-    let r = r.set_band(0, MOST, 1, 1, 1, 1, 7, &NEVER);
+    let r = r.set_band(0, MOST, 1, 1, 1, 1, 7, Text::Never);
     let r = r.set_locks(1, 64, 0, 0, 0, 0, 0);
     let r = more_bytes(r);
     let r = most_bytes(r);
@@ -497,16 +522,16 @@ fn outside_a_script() {
 
 fn more_bytes(r: Run) -> Run {
     let tokens = [0xF0; 1_025];
-    let r = r.set_band(0, 33, 1, 0, 0, 0, 0, &tokens);
-    let r = r.set_band(0, 1, 1, 0, 0, 0, 0, &tokens);
-    let r = r.set_band(0, 0, 0, 0, 0, 0, 0, &tokens);
-    r.set_band(1, 32, 0, 0, 0, 0, 0, &tokens)
+    let r = r.set_tokens(0, band_columns(33, 1, 0, 0, 0, 0), &tokens);
+    let r = r.set_tokens(0, band_columns(1, 1, 0, 0, 0, 0), &tokens);
+    let r = r.set_tokens(0, band_columns(0, 0, 0, 0, 0, 0), &tokens);
+    r.set_tokens(1, band_columns(32, 0, 0, 0, 0, 0), &tokens)
 }
 
 fn most_bytes(r: Run) -> Run {
     let tokens = [0xF0; 1_024];
-    let r = r.set_band(0, 37, 1, 0, 1, 0, 0, &tokens);
-    r.set_band(0, 8, 0, 0, 0, 1, 0, &tokens)
+    let r = r.set_tokens(0, band_columns(37, 1, 0, 1, 0, 0), &tokens);
+    r.set_tokens(0, band_columns(8, 0, 0, 0, 1, 0), &tokens)
 }
 
 fn sensor_refusals() {
@@ -607,7 +632,7 @@ fn transfer_numbers(r: Run) -> Run {
 fn held() {
     let r = begin(b"held", 1_000, 2, 1);
     let r = r.enable(0, 0, 0);
-    let r = r.set_band(1, 33, 1, 0, 0, 0, 0, &A);
+    let r = r.set_band(1, 33, 1, 0, 0, 0, 0, Text::A);
     let r = r.reading(0, 5_000);
     let r = r.unlock_read(1);
     let r = r.unlock_write(1);
@@ -638,26 +663,26 @@ fn held_last(r: Run) -> Run {
 // The expression that a Set names decides, and a refused one is not stored.
 fn new_expression() {
     let r = begin(b"the new expression", 1_000, 1, 1);
-    let r = r.set_band(0, 35, 1, 1, 0, 0, 0, &ALWAYS);
-    let r = r.set_band(0, 36, 0, 0, 0, 0, 0, &NOT_A);
-    let r = r.set_band(0, 44, 0, 0, 0, 0, 0, &NEVER);
-    let r = r.set_band(0, 44, 0, 0, 0, 0, 0, &ALWAYS);
-    let r = r.set_band(0, 44, 0, 0, 0, 1, 0, &NOT_A);
+    let r = r.set_band(0, 35, 1, 1, 0, 0, 0, Text::Always);
+    let r = r.set_band(0, 36, 0, 0, 0, 0, 0, Text::NotA);
+    let r = r.set_band(0, 44, 0, 0, 0, 0, 0, Text::Never);
+    let r = r.set_band(0, 44, 0, 0, 0, 0, 0, Text::Always);
+    let r = r.set_band(0, 44, 0, 0, 0, 1, 0, Text::NotA);
     let r = r.unlock_read(0);
-    let r = r.set_band(0, 44, 0, 0, 1, 0, 0, &A);
+    let r = r.set_band(0, 44, 0, 0, 1, 0, 0, Text::A);
     r.end();
 }
 
 // A side that is enabled and unlocked in one Set, by its new columns and its new expression.
 fn new_columns() {
     let r = begin(b"the new columns", 1_000, 1, 1);
-    let r = r.set_band(0, 32, 0, 0, 0, 0, 0, &ALWAYS);
+    let r = r.set_band(0, 32, 0, 0, 0, 0, 0, Text::Always);
     let r = r.set_locks(0, 5, 1, 0, 0, 0, 0);
     let r = r.set_locks(0, 12, 0, 0, 0, 0, 0);
     let r = r.set_locks(0, 9, 1, 0, 0, 0, 0);
     let r = r.set_locks(0, 14, 0, 1, 0, 1, 0);
-    let r = r.set_band(0, 37, 0, 0, 0, 0, 0, b"\xF0\xF1\xF1");
-    let r = r.set_band(0, 37, 0, 0, 0, 0, 0, &A);
+    let r = r.set_band(0, 37, 0, 0, 0, 0, 0, Text::Cut);
+    let r = r.set_band(0, 37, 0, 0, 0, 0, 0, Text::A);
     r.end();
 }
 
@@ -719,8 +744,8 @@ fn four_sensors(title: &[u8]) -> Run {
 
 // Band 1 is locked by its sensor; band 2, which no reset locks, when the power cycle makes its expression TRUE.
 fn two_expressions(r: Run) -> Run {
-    let r = r.set_band(1, 51, 1, 1, 0, 0, 0, &A);
-    let r = r.set_band(2, 51, 1, 0, 0, 0, 0, &NOT_A);
+    let r = r.set_band(1, 51, 1, 1, 0, 0, 0, Text::A);
+    let r = r.set_band(2, 51, 1, 0, 0, 0, 0, Text::NotA);
     r.elapse(2)
 }
 
@@ -812,7 +837,7 @@ fn tiles_freed(r: Run) -> Run {
 
 // Sensor 15 locks band 15.
 fn last_sensor(r: Run) -> Run {
-    let r = r.set_band(15, 34, 0, 1, 0, 0, 0, &P);
+    let r = r.set_band(15, 34, 0, 1, 0, 0, 0, Text::P);
     let r = r.enable(15, 0, 0);
     let r = r.transfer(1, 0, 1_500);
     let r = r.reading(15, 5_000);
@@ -825,7 +850,7 @@ fn longest_elapse() {
     let r = begin(b"longest elapse", 100, 2, 2);
     let r = r.enable(0, 4_294_967_294, 0);
     let r = r.enable(1, 4_294_967_295, 0);
-    let r = r.set_band(1, 33, 1, 0, 0, 0, 0, &A_AND_NOT_B);
+    let r = r.set_band(1, 33, 1, 0, 0, 0, 0, Text::AAndNotB);
     let r = r.reading(0, 5_000);
     let r = r.reading(1, 5_000);
     let r = r.elapse(4_294_967_296);
@@ -931,7 +956,7 @@ fn least_drive() {
     let r = begin(b"header out of range", 1_000, 17, 2);
     let r = r.reading(0, 0);
     let r = r.set_geometry(1, 0, 0);
-    let r = r.set_band(0, 36, 0, 0, 1, 0, 0, &ALWAYS);
+    let r = r.set_band(0, 36, 0, 0, 1, 0, 0, Text::Always);
     let r = r.transfer(0, 0, 1);
     let r = r.transfer(0, 1, 0);
     let r = r.transfer(0, 0, 2);
