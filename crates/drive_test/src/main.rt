@@ -244,6 +244,23 @@ impl Run {
         self.set_sensor(sensor, 91, 1, 5, on_timeout, 5, off_timeout)
     }
 
+    // Enables a fresh sensor, and turns its level TRUE.
+    fn timer(self, sensor: u64, timeout: u64) -> Run {
+        let r = self.set_sensor(sensor, 9, 1, 0, timeout, 0, 0);
+        r.reading(sensor, 0)
+    }
+
+    // Sensor and timeout of each.
+    fn timers(self, list: &[u64]) -> Run {
+        let mut r = self;
+        let mut i = 0;
+        while 2 <= list.len() - i {
+            r = r.timer(list[i], list[i + 1]);
+            i += 2;
+        }
+        r
+    }
+
     fn set_tokens(self, band: u64, columns: BandColumns, tokens: &[u8]) -> Run {
         let drive = self.drive;
         self.after(events::set_band(drive, band, columns, tokens))
@@ -331,6 +348,28 @@ impl Run {
     fn transfer(self, direction: u64, start: u64, count: u64) -> Run {
         let drive = self.drive;
         self.after(events::transfer(drive, direction, start, count))
+    }
+
+    // Geometries: band, start and length of each.
+    fn geometries(self, list: &[u64]) -> Run {
+        let mut r = self;
+        let mut i = 0;
+        while 3 <= list.len() - i {
+            r = r.set_geometry(list[i], list[i + 1], list[i + 2]);
+            i += 3;
+        }
+        r
+    }
+
+    // Transfers in one direction: start and count of each.
+    fn transfers(self, direction: u64, list: &[u64]) -> Run {
+        let mut r = self;
+        let mut i = 0;
+        while 2 <= list.len() - i {
+            r = r.transfer(direction, list[i], list[i + 1]);
+            i += 2;
+        }
+        r
     }
 
     // Any event, with the bytes of A, at which only a band Set looks.
@@ -424,32 +463,15 @@ fn two_bands(title: &[u8]) -> Run {
 
 fn reads() {
     let r = two_bands(b"reads");
-    let r = r.transfer(0, 0, 100);
-    let r = r.transfer(0, 0, 101);
-    let r = r.transfer(0, 99, 1);
-    let r = r.transfer(0, 100, 1);
-    let r = r.transfer(0, 149, 1);
-    let r = r.transfer(0, 150, 1);
-    let r = reads_last(r);
+    let r = r.transfers(0, &[0, 100, 0, 101, 99, 1, 100, 1, 149, 1, 150, 1]);
+    let r = r.transfers(0, &[149, 2, 50, 850, 150, 850, 120, 0]);
+    let r = r.transfer(1, 0, 101);
     r.end();
-}
-
-fn reads_last(r: Run) -> Run {
-    let r = r.transfer(0, 149, 2);
-    let r = r.transfer(0, 50, 850);
-    let r = r.transfer(0, 150, 850);
-    let r = r.transfer(0, 120, 0);
-    r.transfer(1, 0, 101)
 }
 
 fn writes() {
     let r = two_bands(b"writes");
-    let r = r.transfer(1, 0, 200);
-    let r = r.transfer(1, 0, 201);
-    let r = r.transfer(1, 199, 1);
-    let r = r.transfer(1, 200, 1);
-    let r = r.transfer(1, 249, 1);
-    let r = r.transfer(1, 250, 1);
+    let r = r.transfers(1, &[0, 200, 0, 201, 199, 1, 200, 1, 249, 1, 250, 1]);
     let r = r.transfer(0, 200, 50);
     r.end();
 }
@@ -458,11 +480,7 @@ fn writes() {
 fn global_locked() {
     let r = two_bands(b"global band locked");
     let r = r.lock_write(0);
-    let r = r.transfer(1, 99, 1);
-    let r = r.transfer(1, 100, 50);
-    let r = r.transfer(1, 100, 51);
-    let r = r.transfer(1, 999, 1);
-    let r = r.transfer(1, 1_000, 0);
+    let r = r.transfers(1, &[99, 1, 100, 50, 100, 51, 999, 1, 1_000, 0]);
     let r = r.transfer(0, 0, 100);
     r.end();
 }
@@ -578,32 +596,29 @@ fn ranges() {
 
 fn geometry_refusals() {
     let r = begin(b"geometry refusals", 1_000, 3, 0);
-    let r = r.set_geometry(3, MOST, MOST);
-    let r = r.set_geometry(MOST, 0, 0);
-    let r = r.set_geometry(0, MOST, MOST);
-    let r = r.set_geometry(0, 0, 0);
-    let r = r.set_geometry(1, 1_000, 0);
-    let r = geometry_past_end(r);
-    let r = geometry_overlap(r);
+    let r = r.geometries(&[3, MOST, MOST, MOST, 0, 0, 0, MOST, MOST, 0, 0, 0]);
+    let r = r.geometries(&[1, 1_000, 0, 1, 1_001, 0, 1, 1_000, 1, 1, MOST, MOST]);
+    let r = r.geometries(&[1, 1, MOST, 1, MOST, 1, 1, 0, 1_001, 1, 100, 50]);
+    let r = r.geometries(
+        &[
+            2,
+            120,
+            1_000,
+            2,
+            149,
+            1,
+            2,
+            149,
+            851,
+            2,
+            150,
+            851,
+            2,
+            150,
+            850,
+        ],
+    );
     r.end();
-}
-
-fn geometry_past_end(r: Run) -> Run {
-    let r = r.set_geometry(1, 1_001, 0);
-    let r = r.set_geometry(1, 1_000, 1);
-    let r = r.set_geometry(1, MOST, MOST);
-    let r = r.set_geometry(1, 1, MOST);
-    let r = r.set_geometry(1, MOST, 1);
-    let r = r.set_geometry(1, 0, 1_001);
-    r.set_geometry(1, 100, 50)
-}
-
-fn geometry_overlap(r: Run) -> Run {
-    let r = r.set_geometry(2, 120, 1_000);
-    let r = r.set_geometry(2, 149, 1);
-    let r = r.set_geometry(2, 149, 851);
-    let r = r.set_geometry(2, 150, 851);
-    r.set_geometry(2, 150, 850)
 }
 
 fn transfer_refusals() {
@@ -611,21 +626,11 @@ fn transfer_refusals() {
     let r = r.lock_read(0);
     let r = r.transfer(2, MOST, MOST);
     let r = r.transfer(MOST, 0, 0);
-    let r = r.transfer(0, 0, 1_001);
-    let r = r.transfer(0, 1_000, 1);
-    let r = r.transfer(0, 1_001, 0);
-    let r = transfer_numbers(r);
+    let r = r.transfers(0, &[0, 1_001, 1_000, 1, 1_001, 0]);
+    let r = r.transfers(1, &[MOST, 0, MOST, MOST, 1, MOST]);
+    let r = r.transfers(0, &[999, 1, 999, 0, 1_000, 0]);
+    let r = r.transfer(1, 0, 1_000);
     r.end();
-}
-
-fn transfer_numbers(r: Run) -> Run {
-    let r = r.transfer(1, MOST, 0);
-    let r = r.transfer(1, MOST, MOST);
-    let r = r.transfer(1, 1, MOST);
-    let r = r.transfer(0, 999, 1);
-    let r = r.transfer(0, 999, 0);
-    let r = r.transfer(0, 1_000, 0);
-    r.transfer(1, 0, 1_000)
 }
 
 // The read side under sensor 0.
@@ -776,60 +781,68 @@ fn other_resets() {
     r.end();
 }
 
-// Sixteen bands, of which 1 to 15 fill the drive.
+// Sixteen bands, of which 1 to 15 come to fill the drive.
 fn tiled() {
     let r = begin(b"sixteen bands and sensors", 1_500, 16, 16);
-    let r = r.set_geometry(1, 0, 100);
-    let r = r.set_geometry(2, 100, 100);
-    let r = r.set_geometry(3, 200, 100);
-    let r = r.set_geometry(15, 1_400, 100);
-    let r = r.set_geometry(14, 1_300, 100);
-    let r = tiles(r);
-    let r = more_tiles(r);
+    let r = r.geometries(
+        &[
+            1,
+            0,
+            100,
+            2,
+            100,
+            100,
+            3,
+            200,
+            100,
+            15,
+            1_400,
+            100,
+            14,
+            1_300,
+            100,
+        ],
+    );
+    let r = r.geometries(&[13, 1_200, 100, 12, 1_100, 100, 11, 1_000, 100, 10, 900, 100]);
+    let r = r.geometries(&[4, 300, 100, 5, 400, 100, 6, 500, 100]);
     let r = tiles_moved(r);
     let r = tiles_freed(r);
     let r = last_sensor(r);
     r.end();
 }
 
-fn tiles(r: Run) -> Run {
-    let r = r.set_geometry(13, 1_200, 100);
-    let r = r.set_geometry(12, 1_100, 100);
-    let r = r.set_geometry(11, 1_000, 100);
-    let r = r.set_geometry(10, 900, 100);
-    let r = r.set_geometry(4, 300, 100);
-    let r = r.set_geometry(5, 400, 100);
-    r.set_geometry(6, 500, 100)
-}
-
-// One block too far at either end, and then all that is left.
-fn more_tiles(r: Run) -> Run {
-    let r = r.set_geometry(7, 599, 100);
-    let r = r.set_geometry(7, 600, 301);
-    let r = r.set_geometry(7, 600, 100);
-    let r = r.set_geometry(9, 699, 201);
-    let r = r.set_geometry(9, 800, 100);
-    let r = r.set_geometry(8, 700, 100);
-    r.set_geometry(15, 1_399, 101)
-}
-
-// A band about another, one within another, the same place, and a part of a band's own place.
+// One block too far at either end, and then all that is left. A band about another, one within another, the same place, and a part of a
+// band's own place.
 fn tiles_moved(r: Run) -> Run {
-    let r = r.set_geometry(8, 600, 300);
-    let r = r.set_geometry(8, 0, 1_500);
-    let r = r.set_geometry(8, 640, 20);
-    let r = r.set_geometry(8, 600, 100);
-    let r = r.set_geometry(8, 700, 100);
-    let r = r.set_geometry(8, 710, 80);
-    r.set_geometry(8, 701, 99)
+    let r = r.geometries(
+        &[
+            7,
+            599,
+            100,
+            7,
+            600,
+            301,
+            7,
+            600,
+            100,
+            9,
+            699,
+            201,
+            9,
+            800,
+            100,
+        ],
+    );
+    let r = r.geometries(&[8, 700, 100, 15, 1_399, 101]);
+    let r = r.geometries(&[8, 600, 300, 8, 0, 1_500, 8, 640, 20, 8, 600, 100]);
+    r.geometries(&[8, 700, 100, 8, 710, 80, 8, 701, 99])
 }
 
 // Length 0 frees the blocks, which are then band 0's, or another band's.
 fn tiles_freed(r: Run) -> Run {
     let r = r.set_geometry(7, 650, 0);
     let r = r.lock_read(0);
-    let r = r.transfer(0, 0, 600);
-    let r = r.transfer(0, 0, 601);
+    let r = r.transfers(0, &[0, 600, 0, 601]);
     let r = r.set_geometry(8, 600, 200);
     let r = r.transfer(0, 0, 1_500);
     r.set_geometry(7, 799, 1)
@@ -872,43 +885,44 @@ fn long_elapses() {
     r.end();
 }
 
-// Starts a timer of a fresh sensor, whose level any reading turns TRUE.
-fn timer(r: Run, sensor: u64, timeout: u64) -> Run {
-    let r = r.set_sensor(sensor, 9, 1, 0, timeout, 0, 0);
-    r.reading(sensor, 0)
-}
-
-fn low_timers(r: Run) -> Run {
-    let r = timer(r, 0, 9);
-    let r = timer(r, 1, 3);
-    let r = timer(r, 2, 27);
-    let r = timer(r, 3, 81);
-    let r = timer(r, 4, 1);
-    let r = timer(r, 5, 2);
-    let r = timer(r, 6, 4);
-    timer(r, 7, 8)
-}
-
-// A tick apart from some of the low ones, and the greatest.
-fn high_timers(r: Run) -> Run {
-    let r = timer(r, 8, 16);
-    let r = timer(r, 9, 32);
-    let r = timer(r, 10, 64);
-    let r = timer(r, 11, 128);
-    let r = timer(r, 12, 10);
-    let r = timer(r, 13, 28);
-    let r = timer(r, 14, 82);
-    timer(r, 15, 4_294_967_295)
+// Some end a tick apart, and one at the last tick of the longest elapse.
+fn sixteen(title: &[u8]) -> Run {
+    let r = begin(title, 1, 1, 16);
+    let r = r.timers(
+        &[
+            0,
+            9,
+            1,
+            3,
+            2,
+            27,
+            3,
+            81,
+            4,
+            1,
+            5,
+            2,
+            6,
+            4,
+            7,
+            8,
+            8,
+            16,
+            9,
+            32,
+        ],
+    );
+    r.timers(&[10, 64, 11, 128, 12, 10, 13, 28, 14, 82, 15, 4_294_967_295])
 }
 
 fn sixteen_timers() {
-    let r = high_timers(low_timers(begin(b"sixteen timers", 1, 1, 16)));
+    let r = sixteen(b"sixteen timers");
     let r = r.elapse(4_294_967_295);
     r.end();
 }
 
 fn sixteen_timers_in_parts() {
-    let r = high_timers(low_timers(begin(b"sixteen timers in parts", 1, 1, 16)));
+    let r = sixteen(b"sixteen timers in parts");
     let r = r.elapse(0);
     let r = r.elapse(9);
     let r = r.elapse(54);
@@ -918,9 +932,8 @@ fn sixteen_timers_in_parts() {
 
 // Timers that end together are one stop.
 fn equal_timers() {
-    let r = timer(begin(b"equal timers", 1, 1, 3), 0, 3);
-    let r = timer(r, 2, 3);
-    let r = timer(r, 1, 4);
+    let r = begin(b"equal timers", 1, 1, 3);
+    let r = r.timers(&[0, 3, 2, 3, 1, 4]);
     let r = r.elapse(3);
     let r = r.elapse(0);
     r.end();
@@ -957,9 +970,7 @@ fn least_drive() {
     let r = r.reading(0, 0);
     let r = r.set_geometry(1, 0, 0);
     let r = r.set_band(0, 36, 0, 0, 1, 0, 0, Text::Always);
-    let r = r.transfer(0, 0, 1);
-    let r = r.transfer(0, 1, 0);
-    let r = r.transfer(0, 0, 2);
+    let r = r.transfers(0, &[0, 1, 1, 0, 0, 2]);
     r.end();
 }
 
@@ -969,8 +980,7 @@ fn greatest_drive() {
     let r = r.lock_read(1);
     let r = r.transfer(0, 281_474_976_710_655, 1);
     let r = r.transfer(1, 281_474_976_710_655, 1);
-    let r = r.transfer(0, 281_474_976_710_655, 2);
-    let r = r.transfer(0, 281_474_976_710_656, 0);
+    let r = r.transfers(0, &[281_474_976_710_655, 2, 281_474_976_710_656, 0]);
     let r = r.set_geometry(1, 281_474_976_710_655, 1);
     let r = r.transfer(0, 0, 281_474_976_710_655);
     r.end();
