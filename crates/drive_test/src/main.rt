@@ -177,9 +177,7 @@ fn band_columns(
 }
 
 // The fresh drive of a header.
-fn begin(title: &[u8], capacity: u64, bands: u64, sensors: u64) -> Run {
-    print(title);
-    print(b"\n");
+fn begin(capacity: u64, bands: u64, sensors: u64) -> Run {
     let fresh = Drive::fresh(capacity, bands, sensors);
     let drive = fresh.drive;
     Run { drive, events: 0 }
@@ -387,7 +385,7 @@ impl Run {
 
 // Document 01's script.
 fn worked() {
-    let r = begin(b"worked", 1_000, 2, 1);
+    let r = begin(1_000, 2, 1);
     let r = r.set_sensor(0, 27, 1, 5, 3, 5, 0);
     let r = r.set_band(1, 33, 1, 0, 0, 0, 0, Text::A);
     let r = r.set_geometry(1, 100, 50);
@@ -401,7 +399,7 @@ fn worked() {
 
 // The same by apply, and then a reset.
 fn applied() {
-    let r = begin(b"applied", 1_000, 2, 1);
+    let r = begin(1_000, 2, 1);
     let r = r.apply(Kind::SensorSet(0, sensor_columns(27, 1, 5, 3, 5, 0)));
     let r = r.apply(Kind::BandSet(1, band_columns(33, 1, 0, 0, 0, 0)));
     let r = r.apply(Kind::Geometry(1, 100, 50));
@@ -420,8 +418,8 @@ fn applied_last(r: Run) -> Run {
 }
 
 // 'a AND NOT b' with timers 3 and 5.
-fn two_timers(title: &[u8]) -> Run {
-    let r = begin(title, 100, 2, 2);
+fn two_timers() -> Run {
+    let r = begin(100, 2, 2);
     let r = r.enable(0, 3, 0);
     let r = r.enable(1, 5, 0);
     let r = r.set_band(1, 33, 1, 0, 0, 0, 0, Text::AAndNotB);
@@ -430,13 +428,13 @@ fn two_timers(title: &[u8]) -> Run {
 }
 
 fn in_one_elapse() {
-    let r = two_timers(b"timers 3 and 5, one elapse");
+    let r = two_timers();
     let r = r.elapse(5);
     r.end();
 }
 
 fn in_ticks() {
-    let r = two_timers(b"timers 3 and 5, ticks");
+    let r = two_timers();
     let r = r.elapse(1);
     let r = r.elapse(1);
     let r = r.elapse(1);
@@ -446,15 +444,15 @@ fn in_ticks() {
 }
 
 fn before_the_second() {
-    let r = two_timers(b"timers 3 and 5, elapse 4");
+    let r = two_timers();
     let r = r.elapse(4);
     let r = r.unlock_read(1);
     r.end();
 }
 
 // Blocks 100 to 149 locked for reads, 200 to 249 for writes.
-fn two_bands(title: &[u8]) -> Run {
-    let r = begin(title, 1_000, 3, 0);
+fn two_bands() -> Run {
+    let r = begin(1_000, 3, 0);
     let r = r.set_geometry(1, 100, 50);
     let r = r.set_geometry(2, 200, 50);
     let r = r.lock_read(1);
@@ -462,7 +460,7 @@ fn two_bands(title: &[u8]) -> Run {
 }
 
 fn reads() {
-    let r = two_bands(b"reads");
+    let r = two_bands();
     let r = r.transfers(0, &[0, 100, 0, 101, 99, 1, 100, 1, 149, 1, 150, 1]);
     let r = r.transfers(0, &[149, 2, 50, 850, 150, 850, 120, 0]);
     let r = r.transfer(1, 0, 101);
@@ -470,7 +468,7 @@ fn reads() {
 }
 
 fn writes() {
-    let r = two_bands(b"writes");
+    let r = two_bands();
     let r = r.transfers(1, &[0, 200, 0, 201, 199, 1, 200, 1, 249, 1, 250, 1]);
     let r = r.transfer(0, 200, 50);
     r.end();
@@ -478,7 +476,7 @@ fn writes() {
 
 // The blocks of no other band.
 fn global_locked() {
-    let r = two_bands(b"global band locked");
+    let r = two_bands();
     let r = r.lock_write(0);
     let r = r.transfers(1, &[99, 1, 100, 50, 100, 51, 999, 1, 1_000, 0]);
     let r = r.transfer(0, 0, 100);
@@ -487,7 +485,7 @@ fn global_locked() {
 
 // A band under a TRUE expression, and a Set with more and more of it right.
 fn band_precedence() {
-    let r = begin(b"band Set refusals in order", 1_000, 2, 1);
+    let r = begin(1_000, 2, 1);
     let r = r.set_band(1, 33, 1, 0, 0, 0, 0, Text::Always);
     let r = r.set_band(2, 63, 2, 2, 0, 0, 8, Text::Cut);
     let r = r.set_band(1, 63, 2, 0, 0, 0, 0, Text::Cut);
@@ -509,7 +507,7 @@ fn too_long(r: Run) -> Run {
 
 // Each column above its range, and at it.
 fn band_ranges() {
-    let r = begin(b"band Set ranges", 1_000, 16, 0);
+    let r = begin(1_000, 16, 0);
     let r = r.set_locks(15, 1, 2, 0, 0, 0, 0);
     let r = r.set_locks(15, 2, 0, MOST, 0, 0, 0);
     let r = r.set_locks(15, 4, 0, 0, 256, 0, 0);
@@ -529,7 +527,7 @@ fn band_numbers(r: Run) -> Run {
 
 // What no script holds: unknown mask bits, and more than 1,024 token bytes, named or not.
 fn outside_a_script() {
-    let r = begin(b"band Set outside a script", 1_000, 1, 0);
+    let r = begin(1_000, 1, 0);
     let r = r.set_locks(0, 64, 0, 0, 0, 0, 0);
     let r = r.set_band(0, MOST, 1, 1, 1, 1, 7, Text::Never);
     let r = r.set_locks(1, 64, 0, 0, 0, 0, 0);
@@ -553,7 +551,7 @@ fn most_bytes(r: Run) -> Run {
 }
 
 fn sensor_refusals() {
-    let r = begin(b"sensor refusals", 1_000, 1, 2);
+    let r = begin(1_000, 1, 2);
     let r = r.reading(2, MOST);
     let r = r.reading(MOST, 0);
     let r = r.reading(1, 4_294_967_296_000);
@@ -584,7 +582,7 @@ fn sensor_ranges(r: Run) -> Run {
 }
 
 fn ranges() {
-    let r = begin(b"elapse and reset ranges", 1_000, 1, 0);
+    let r = begin(1_000, 1, 0);
     let r = r.elapse(4_294_967_296);
     let r = r.elapse(MOST);
     let r = r.elapse(4_294_967_295);
@@ -595,7 +593,7 @@ fn ranges() {
 }
 
 fn geometry_refusals() {
-    let r = begin(b"geometry refusals", 1_000, 3, 0);
+    let r = begin(1_000, 3, 0);
     let r = r.geometries(&[3, MOST, MOST, MOST, 0, 0, 0, MOST, MOST, 0, 0, 0]);
     let r = r.geometries(&[1, 1_000, 0, 1, 1_001, 0, 1, 1_000, 1, 1, MOST, MOST]);
     let r = r.geometries(&[1, 1, MOST, 1, MOST, 1, 1, 0, 1_001, 1, 100, 50]);
@@ -622,7 +620,7 @@ fn geometry_refusals() {
 }
 
 fn transfer_refusals() {
-    let r = begin(b"transfer refusals", 1_000, 1, 0);
+    let r = begin(1_000, 1, 0);
     let r = r.lock_read(0);
     let r = r.transfer(2, MOST, MOST);
     let r = r.transfer(MOST, 0, 0);
@@ -635,7 +633,7 @@ fn transfer_refusals() {
 
 // The read side under sensor 0.
 fn held() {
-    let r = begin(b"held", 1_000, 2, 1);
+    let r = begin(1_000, 2, 1);
     let r = r.enable(0, 0, 0);
     let r = r.set_band(1, 33, 1, 0, 0, 0, 0, Text::A);
     let r = r.reading(0, 5_000);
@@ -667,7 +665,7 @@ fn held_last(r: Run) -> Run {
 
 // The expression that a Set names decides, and a refused one is not stored.
 fn new_expression() {
-    let r = begin(b"the new expression", 1_000, 1, 1);
+    let r = begin(1_000, 1, 1);
     let r = r.set_band(0, 35, 1, 1, 0, 0, 0, Text::Always);
     let r = r.set_band(0, 36, 0, 0, 0, 0, 0, Text::NotA);
     let r = r.set_band(0, 44, 0, 0, 0, 0, 0, Text::Never);
@@ -680,7 +678,7 @@ fn new_expression() {
 
 // A side that is enabled and unlocked in one Set, by its new columns and its new expression.
 fn new_columns() {
-    let r = begin(b"the new columns", 1_000, 1, 1);
+    let r = begin(1_000, 1, 1);
     let r = r.set_band(0, 32, 0, 0, 0, 0, 0, Text::Always);
     let r = r.set_locks(0, 5, 1, 0, 0, 0, 0);
     let r = r.set_locks(0, 12, 0, 0, 0, 0, 0);
@@ -693,7 +691,7 @@ fn new_columns() {
 
 // Locked on a side that is not enabled.
 fn disabled_side() {
-    let r = begin(b"locked and disabled", 1_000, 1, 0);
+    let r = begin(1_000, 1, 0);
     let r = r.set_locks(0, 12, 0, 0, 1, 1, 0);
     let r = r.transfer(0, 0, 1_000);
     let r = r.transfer(1, 0, 1_000);
@@ -704,8 +702,8 @@ fn disabled_side() {
 }
 
 // Bands 1 to 5 with LockOnReset 1, 2, 4, 7 and 0 and the read side enabled; band 0 as it was fresh, with the write side enabled.
-fn reset_sets(title: &[u8]) -> Run {
-    let r = begin(title, 1_000, 6, 0);
+fn reset_sets() -> Run {
+    let r = begin(1_000, 6, 0);
     let r = r.set_locks(0, 2, 0, 1, 0, 0, 0);
     let r = r.set_locks(1, 17, 1, 0, 0, 0, 1);
     let r = r.set_locks(2, 17, 1, 0, 0, 0, 2);
@@ -714,15 +712,15 @@ fn reset_sets(title: &[u8]) -> Run {
     r.set_locks(5, 17, 1, 0, 0, 0, 0)
 }
 
-fn reset_with(title: &[u8], kind: u64) {
-    let r = reset_sets(title);
+fn reset_with(kind: u64) {
+    let r = reset_sets();
     let r = r.reset(kind);
     r.end();
 }
 
 // The sets of two types.
 fn reset_pairs() {
-    let r = begin(b"resets by turns", 1_000, 4, 0);
+    let r = begin(1_000, 4, 0);
     let r = r.set_locks(1, 19, 1, 1, 0, 0, 3);
     let r = r.set_locks(2, 19, 1, 1, 0, 0, 5);
     let r = r.set_locks(3, 19, 1, 1, 0, 0, 6);
@@ -735,8 +733,8 @@ fn reset_pairs() {
 }
 
 // Sensors settled TRUE, waiting both ways, and disabled with level TRUE.
-fn four_sensors(title: &[u8]) -> Run {
-    let r = begin(title, 1_000, 3, 4);
+fn four_sensors() -> Run {
+    let r = begin(1_000, 3, 4);
     let r = r.enable(0, 0, 0);
     let r = r.enable(1, 7, 0);
     let r = r.enable(2, 0, 9);
@@ -755,14 +753,14 @@ fn two_expressions(r: Run) -> Run {
 }
 
 fn power_cycle() {
-    let r = two_expressions(four_sensors(b"power cycle"));
+    let r = two_expressions(four_sensors());
     let r = r.reset(0);
     r.end();
 }
 
 // The columns are kept: the same readings and ticks again.
 fn after_power_cycle() {
-    let r = two_expressions(four_sensors(b"after a power cycle"));
+    let r = two_expressions(four_sensors());
     let r = r.reset(0);
     let r = r.set_locks(1, 12, 0, 0, 0, 0, 0);
     let r = r.unlock_read(2);
@@ -775,7 +773,7 @@ fn after_power_cycle() {
 }
 
 fn other_resets() {
-    let r = two_expressions(four_sensors(b"other resets"));
+    let r = two_expressions(four_sensors());
     let r = r.reset(1);
     let r = r.reset(2);
     r.end();
@@ -783,7 +781,7 @@ fn other_resets() {
 
 // Sixteen bands, of which 1 to 15 come to fill the drive.
 fn tiled() {
-    let r = begin(b"sixteen bands and sensors", 1_500, 16, 16);
+    let r = begin(1_500, 16, 16);
     let r = r.geometries(
         &[
             1,
@@ -860,7 +858,7 @@ fn last_sensor(r: Run) -> Run {
 
 // Timers that end at the last tick and the one before it.
 fn longest_elapse() {
-    let r = begin(b"longest elapse", 100, 2, 2);
+    let r = begin(100, 2, 2);
     let r = r.enable(0, 4_294_967_294, 0);
     let r = r.enable(1, 4_294_967_295, 0);
     let r = r.set_band(1, 33, 1, 0, 0, 0, 0, Text::AAndNotB);
@@ -874,7 +872,7 @@ fn longest_elapse() {
 
 // The same less one tick, and an off-timeout that begins then.
 fn long_elapses() {
-    let r = begin(b"long elapses", 100, 2, 2);
+    let r = begin(100, 2, 2);
     let r = r.enable(0, 4_294_967_294, 4_294_967_295);
     let r = r.enable(1, 4_294_967_295, 0);
     let r = r.reading(0, 5_000);
@@ -886,8 +884,8 @@ fn long_elapses() {
 }
 
 // Some end a tick apart, and one at the last tick of the longest elapse.
-fn sixteen(title: &[u8]) -> Run {
-    let r = begin(title, 1, 1, 16);
+fn sixteen() -> Run {
+    let r = begin(1, 1, 16);
     let r = r.timers(
         &[
             0,
@@ -916,13 +914,13 @@ fn sixteen(title: &[u8]) -> Run {
 }
 
 fn sixteen_timers() {
-    let r = sixteen(b"sixteen timers");
+    let r = sixteen();
     let r = r.elapse(4_294_967_295);
     r.end();
 }
 
 fn sixteen_timers_in_parts() {
-    let r = sixteen(b"sixteen timers in parts");
+    let r = sixteen();
     let r = r.elapse(0);
     let r = r.elapse(9);
     let r = r.elapse(54);
@@ -932,7 +930,7 @@ fn sixteen_timers_in_parts() {
 
 // Timers that end together are one stop.
 fn equal_timers() {
-    let r = begin(b"equal timers", 1, 1, 3);
+    let r = begin(1, 1, 3);
     let r = r.timers(&[0, 3, 2, 3, 1, 4]);
     let r = r.elapse(3);
     let r = r.elapse(0);
@@ -966,7 +964,7 @@ fn headers() {
 
 // The drive of a header out of range.
 fn least_drive() {
-    let r = begin(b"header out of range", 1_000, 17, 2);
+    let r = begin(1_000, 17, 2);
     let r = r.reading(0, 0);
     let r = r.set_geometry(1, 0, 0);
     let r = r.set_band(0, 36, 0, 0, 1, 0, 0, Text::Always);
@@ -975,7 +973,7 @@ fn least_drive() {
 }
 
 fn greatest_drive() {
-    let r = begin(b"greatest drive", 281_474_976_710_656, 16, 16);
+    let r = begin(281_474_976_710_656, 16, 16);
     let r = r.set_geometry(1, 0, 281_474_976_710_656);
     let r = r.lock_read(1);
     let r = r.transfer(0, 281_474_976_710_655, 1);
@@ -987,51 +985,82 @@ fn greatest_drive() {
 }
 
 fn expressions() {
+    print(b"worked\n");
     worked();
+    print(b"applied\n");
     applied();
+    print(b"timers 3 and 5, one elapse\n");
     in_one_elapse();
+    print(b"timers 3 and 5, ticks\n");
     in_ticks();
+    print(b"timers 3 and 5, elapse 4\n");
     before_the_second();
 }
 
 fn transfers() {
+    print(b"reads\n");
     reads();
+    print(b"writes\n");
     writes();
+    print(b"global band locked\n");
     global_locked();
 }
 
 fn refusals() {
+    print(b"band Set refusals in order\n");
     band_precedence();
+    print(b"band Set ranges\n");
     band_ranges();
+    print(b"band Set outside a script\n");
     outside_a_script();
+    print(b"sensor refusals\n");
     sensor_refusals();
+    print(b"elapse and reset ranges\n");
     ranges();
+    print(b"geometry refusals\n");
     geometry_refusals();
+    print(b"transfer refusals\n");
     transfer_refusals();
 }
 
 fn locks() {
+    print(b"held\n");
     held();
+    print(b"the new expression\n");
     new_expression();
+    print(b"the new columns\n");
     new_columns();
+    print(b"locked and disabled\n");
     disabled_side();
 }
 
 fn resets() {
-    reset_with(b"reset 0", 0);
-    reset_with(b"reset 1", 1);
-    reset_with(b"reset 2", 2);
+    print(b"reset 0\n");
+    reset_with(0);
+    print(b"reset 1\n");
+    reset_with(1);
+    print(b"reset 2\n");
+    reset_with(2);
+    print(b"resets by turns\n");
     reset_pairs();
+    print(b"power cycle\n");
     power_cycle();
+    print(b"after a power cycle\n");
     after_power_cycle();
+    print(b"other resets\n");
     other_resets();
 }
 
 fn timers() {
+    print(b"longest elapse\n");
     longest_elapse();
+    print(b"long elapses\n");
     long_elapses();
+    print(b"sixteen timers\n");
     sixteen_timers();
+    print(b"sixteen timers in parts\n");
     sixteen_timers_in_parts();
+    print(b"equal timers\n");
     equal_timers();
 }
 
@@ -1041,9 +1070,12 @@ fn main() {
     refusals();
     locks();
     resets();
+    print(b"sixteen bands and sensors\n");
     tiled();
     timers();
     headers();
+    print(b"header out of range\n");
     least_drive();
+    print(b"greatest drive\n");
     greatest_drive();
 }
