@@ -1,4 +1,4 @@
-// Runs of events on fresh drives. Each prints a title, and then the listing of document 01: a line for each event with its answer and stops,
+// Runs of events on fresh drives. Each has a line with its number, and then the listing of document 01: a line for each event with its answer and stops,
 // and at the end the bands and the sensors. Numbers and sets of columns are as in a script; a value that a mask does not name is 0.
 use answer::Answer;
 use band::BandColumns;
@@ -174,6 +174,13 @@ fn band_columns(
         write_locked,
         lock_on_reset,
     }
+}
+
+// A run's number, in the order of `main`.
+fn title(number: u64) {
+    print(b"run");
+    print_next(number);
+    print(b"\n");
 }
 
 // The fresh drive of a header.
@@ -951,7 +958,6 @@ fn header(capacity: u64, bands: u64, sensors: u64) {
 }
 
 fn headers() {
-    print(b"headers\n");
     header(1, 1, 0);
     header(281_474_976_710_656, 16, 16);
     header(0, 1, 0);
@@ -985,82 +991,82 @@ fn greatest_drive() {
 }
 
 fn expressions() {
-    print(b"worked\n");
+    title(1);
     worked();
-    print(b"applied\n");
+    title(2);
     applied();
-    print(b"timers 3 and 5, one elapse\n");
+    title(3);
     in_one_elapse();
-    print(b"timers 3 and 5, ticks\n");
+    title(4);
     in_ticks();
-    print(b"timers 3 and 5, elapse 4\n");
+    title(5);
     before_the_second();
 }
 
 fn transfers() {
-    print(b"reads\n");
+    title(6);
     reads();
-    print(b"writes\n");
+    title(7);
     writes();
-    print(b"global band locked\n");
+    title(8);
     global_locked();
 }
 
 fn refusals() {
-    print(b"band Set refusals in order\n");
+    title(9);
     band_precedence();
-    print(b"band Set ranges\n");
+    title(10);
     band_ranges();
-    print(b"band Set outside a script\n");
+    title(11);
     outside_a_script();
-    print(b"sensor refusals\n");
+    title(12);
     sensor_refusals();
-    print(b"elapse and reset ranges\n");
+    title(13);
     ranges();
-    print(b"geometry refusals\n");
+    title(14);
     geometry_refusals();
-    print(b"transfer refusals\n");
+    title(15);
     transfer_refusals();
 }
 
 fn locks() {
-    print(b"held\n");
+    title(16);
     held();
-    print(b"the new expression\n");
+    title(17);
     new_expression();
-    print(b"the new columns\n");
+    title(18);
     new_columns();
-    print(b"locked and disabled\n");
+    title(19);
     disabled_side();
 }
 
 fn resets() {
-    print(b"reset 0\n");
+    title(20);
     reset_with(0);
-    print(b"reset 1\n");
+    title(21);
     reset_with(1);
-    print(b"reset 2\n");
+    title(22);
     reset_with(2);
-    print(b"resets by turns\n");
+    title(23);
     reset_pairs();
-    print(b"power cycle\n");
+    title(24);
     power_cycle();
-    print(b"after a power cycle\n");
+    title(25);
     after_power_cycle();
-    print(b"other resets\n");
+    title(26);
     other_resets();
 }
 
 fn timers() {
-    print(b"longest elapse\n");
+    title(28);
     longest_elapse();
-    print(b"long elapses\n");
+    title(29);
     long_elapses();
-    print(b"sixteen timers\n");
+    title(30);
     sixteen_timers();
-    print(b"sixteen timers in parts\n");
+    title(31);
     sixteen_timers_in_parts();
-    print(b"equal timers\n");
+    title(32);
     equal_timers();
 }
 
@@ -1070,12 +1076,13 @@ fn main() {
     refusals();
     locks();
     resets();
-    print(b"sixteen bands and sensors\n");
+    title(27);
     tiled();
     timers();
+    title(33);
     headers();
-    print(b"header out of range\n");
+    title(34);
     least_drive();
-    print(b"greatest drive\n");
+    title(35);
     greatest_drive();
 }
