@@ -1,4 +1,4 @@
-// Runs of events on fresh drives. Each prints a title, and then the listing of document 01: a line for each event with its answer and stops,
+// Runs of events on fresh drives. Each has a line with its number, and then the listing of document 01: a line for each event with its answer and stops,
 // and at the end the bands and the sensors. Numbers and sets of columns are as in a script; a value that a mask does not name is 0.
 use answer::Answer;
 use band::BandColumns;
@@ -25,11 +25,20 @@ const A_AND_NOT_B: [u8; 42] =
 // Sensor 15.
 const P: [u8; 14] = *b"\xF0\xF2\xA4\x00\x00\x0C\x0E\xA4\x00\x00\x00\x0F\xF3\xF1";
 
-// NOT of row 99, which is TRUE on every drive, and no elements, which is FALSE.
+// NOT of row 99, which is TRUE on every drive.
 const ALWAYS: [u8; 22] =
     *b"\xF0\xF2\xA4\x00\x00\x0C\x0E\xA4\x00\x00\x00\x63\xF3\xF2\xA4\x00\x00\x04\x0E\x02\xF3\xF1";
 
-const NEVER: [u8; 2] = *b"\xF0\xF1";
+// The bytes that a band Set names; the last is cut short.
+enum Text {
+    A,
+    NotA,
+    AAndNotB,
+    P,
+    Always,
+    Never,
+    Cut,
+}
 
 // A drive, and the number of events that it has had.
 struct Run {
@@ -167,10 +176,15 @@ fn band_columns(
     }
 }
 
-// The fresh drive of a header.
-fn begin(title: &[u8], capacity: u64, bands: u64, sensors: u64) -> Run {
-    print(title);
+// A run's number, in the order of `main`.
+fn title(number: u64) {
+    print(b"run");
+    print_next(number);
     print(b"\n");
+}
+
+// The fresh drive of a header.
+fn begin(capacity: u64, bands: u64, sensors: u64) -> Run {
     let fresh = Drive::fresh(capacity, bands, sensors);
     let drive = fresh.drive;
     Run { drive, events: 0 }
@@ -235,6 +249,40 @@ impl Run {
         self.set_sensor(sensor, 91, 1, 5, on_timeout, 5, off_timeout)
     }
 
+    // Enables a fresh sensor, and turns its level TRUE.
+    fn timer(self, sensor: u64, timeout: u64) -> Run {
+        let r = self.set_sensor(sensor, 9, 1, 0, timeout, 0, 0);
+        r.reading(sensor, 0)
+    }
+
+    // Sensor and timeout of each.
+    fn timers(self, list: &[u64]) -> Run {
+        let mut r = self;
+        let mut i = 0;
+        while 2 <= list.len() - i {
+            r = r.timer(list[i], list[i + 1]);
+            i += 2;
+        }
+        r
+    }
+
+    fn set_tokens(self, band: u64, columns: BandColumns, tokens: &[u8]) -> Run {
+        let drive = self.drive;
+        self.after(events::set_band(drive, band, columns, tokens))
+    }
+
+    fn set_text(self, band: u64, columns: BandColumns, text: Text) -> Run {
+        match text {
+            Text::A => self.set_tokens(band, columns, &A),
+            Text::NotA => self.set_tokens(band, columns, &NOT_A),
+            Text::AAndNotB => self.set_tokens(band, columns, &A_AND_NOT_B),
+            Text::P => self.set_tokens(band, columns, &P),
+            Text::Always => self.set_tokens(band, columns, &ALWAYS),
+            Text::Never => self.set_tokens(band, columns, b"\xF0\xF1"),
+            Text::Cut => self.set_tokens(band, columns, b"\xF0"),
+        }
+    }
+
     fn set_band(
         self,
         band: u64,
@@ -244,9 +292,8 @@ impl Run {
         read_locked: u64,
         write_locked: u64,
         lock_on_reset: u64,
-        tokens: &[u8],
+        text: Text,
     ) -> Run {
-        let drive = self.drive;
         let columns = band_columns(
             mask,
             read_lock_enabled,
@@ -255,7 +302,7 @@ impl Run {
             write_locked,
             lock_on_reset,
         );
-        self.after(events::set_band(drive, band, columns, tokens))
+        self.set_text(band, columns, text)
     }
 
     // A Set that does not name the expression.
@@ -269,16 +316,15 @@ impl Run {
         write_locked: u64,
         lock_on_reset: u64,
     ) -> Run {
-        self.set_band(
-            band,
+        let columns = band_columns(
             mask,
             read_lock_enabled,
             write_lock_enabled,
             read_locked,
             write_locked,
             lock_on_reset,
-            b"",
-        )
+        );
+        self.set_tokens(band, columns, b"")
     }
 
     // Both lock columns of the read side, or of the write side.
@@ -309,9 +355,32 @@ impl Run {
         self.after(events::transfer(drive, direction, start, count))
     }
 
-    fn apply(self, kind: Kind, tokens: &[u8]) -> Run {
+    // Geometries: band, start and length of each.
+    fn geometries(self, list: &[u64]) -> Run {
+        let mut r = self;
+        let mut i = 0;
+        while 3 <= list.len() - i {
+            r = r.set_geometry(list[i], list[i + 1], list[i + 2]);
+            i += 3;
+        }
+        r
+    }
+
+    // Transfers in one direction: start and count of each.
+    fn transfers(self, direction: u64, list: &[u64]) -> Run {
+        let mut r = self;
+        let mut i = 0;
+        while 2 <= list.len() - i {
+            r = r.transfer(direction, list[i], list[i + 1]);
+            i += 2;
+        }
+        r
+    }
+
+    // Any event, with the bytes of A, at which only a band Set looks.
+    fn apply(self, kind: Kind) -> Run {
         let drive = self.drive;
-        self.after(events::apply(drive, kind, tokens))
+        self.after(events::apply(drive, kind, &A))
     }
 
     fn end(self) {
@@ -323,9 +392,9 @@ impl Run {
 
 // Document 01's script.
 fn worked() {
-    let r = begin(b"worked", 1_000, 2, 1);
+    let r = begin(1_000, 2, 1);
     let r = r.set_sensor(0, 27, 1, 5, 3, 5, 0);
-    let r = r.set_band(1, 33, 1, 0, 0, 0, 0, &A);
+    let r = r.set_band(1, 33, 1, 0, 0, 0, 0, Text::A);
     let r = r.set_geometry(1, 100, 50);
     let r = r.reading(0, 5_000);
     let r = r.elapse(5);
@@ -337,42 +406,42 @@ fn worked() {
 
 // The same by apply, and then a reset.
 fn applied() {
-    let r = begin(b"applied", 1_000, 2, 1);
-    let r = r.apply(Kind::SensorSet(0, sensor_columns(27, 1, 5, 3, 5, 0)), b"");
-    let r = r.apply(Kind::BandSet(1, band_columns(33, 1, 0, 0, 0, 0)), &A);
-    let r = r.apply(Kind::Geometry(1, 100, 50), &A);
-    let r = r.apply(Kind::Reading(0, 5_000), b"");
+    let r = begin(1_000, 2, 1);
+    let r = r.apply(Kind::SensorSet(0, sensor_columns(27, 1, 5, 3, 5, 0)));
+    let r = r.apply(Kind::BandSet(1, band_columns(33, 1, 0, 0, 0, 0)));
+    let r = r.apply(Kind::Geometry(1, 100, 50));
+    let r = r.apply(Kind::Reading(0, 5_000));
     let r = applied_last(r);
     r.end();
 }
 
 fn applied_last(r: Run) -> Run {
-    let r = r.apply(Kind::Elapse(5), b"");
-    let r = r.apply(Kind::Transfer(0, 99, 2), b"");
-    let r = r.apply(Kind::Transfer(1, 99, 2), b"\xF0");
-    let r = r.apply(Kind::BandSet(1, band_columns(4, 0, 0, 0, 0, 0)), b"");
-    let r = r.apply(Kind::Reset(0), b"");
-    r.apply(Kind::BandSet(1, band_columns(4, 0, 0, 0, 0, 0)), b"")
+    let r = r.apply(Kind::Elapse(5));
+    let r = r.apply(Kind::Transfer(0, 99, 2));
+    let r = r.apply(Kind::Transfer(1, 99, 2));
+    let r = r.apply(Kind::BandSet(1, band_columns(4, 0, 0, 0, 0, 0)));
+    let r = r.apply(Kind::Reset(0));
+    r.apply(Kind::BandSet(1, band_columns(4, 0, 0, 0, 0, 0)))
 }
 
 // 'a AND NOT b' with timers 3 and 5.
-fn two_timers(title: &[u8]) -> Run {
-    let r = begin(title, 100, 2, 2);
+fn two_timers() -> Run {
+    let r = begin(100, 2, 2);
     let r = r.enable(0, 3, 0);
     let r = r.enable(1, 5, 0);
-    let r = r.set_band(1, 33, 1, 0, 0, 0, 0, &A_AND_NOT_B);
+    let r = r.set_band(1, 33, 1, 0, 0, 0, 0, Text::AAndNotB);
     let r = r.reading(0, 5_000);
     r.reading(1, 5_000)
 }
 
 fn in_one_elapse() {
-    let r = two_timers(b"timers 3 and 5, one elapse");
+    let r = two_timers();
     let r = r.elapse(5);
     r.end();
 }
 
 fn in_ticks() {
-    let r = two_timers(b"timers 3 and 5, ticks");
+    let r = two_timers();
     let r = r.elapse(1);
     let r = r.elapse(1);
     let r = r.elapse(1);
@@ -382,15 +451,15 @@ fn in_ticks() {
 }
 
 fn before_the_second() {
-    let r = two_timers(b"timers 3 and 5, elapse 4");
+    let r = two_timers();
     let r = r.elapse(4);
     let r = r.unlock_read(1);
     r.end();
 }
 
 // Blocks 100 to 149 locked for reads, 200 to 249 for writes.
-fn two_bands(title: &[u8]) -> Run {
-    let r = begin(title, 1_000, 3, 0);
+fn two_bands() -> Run {
+    let r = begin(1_000, 3, 0);
     let r = r.set_geometry(1, 100, 50);
     let r = r.set_geometry(2, 200, 50);
     let r = r.lock_read(1);
@@ -398,60 +467,39 @@ fn two_bands(title: &[u8]) -> Run {
 }
 
 fn reads() {
-    let r = two_bands(b"reads");
-    let r = r.transfer(0, 0, 100);
-    let r = r.transfer(0, 0, 101);
-    let r = r.transfer(0, 99, 1);
-    let r = r.transfer(0, 100, 1);
-    let r = r.transfer(0, 149, 1);
-    let r = r.transfer(0, 150, 1);
-    let r = reads_last(r);
+    let r = two_bands();
+    let r = r.transfers(0, &[0, 100, 0, 101, 99, 1, 100, 1, 149, 1, 150, 1]);
+    let r = r.transfers(0, &[149, 2, 50, 850, 150, 850, 120, 0]);
+    let r = r.transfer(1, 0, 101);
     r.end();
 }
 
-fn reads_last(r: Run) -> Run {
-    let r = r.transfer(0, 149, 2);
-    let r = r.transfer(0, 50, 850);
-    let r = r.transfer(0, 150, 850);
-    let r = r.transfer(0, 120, 0);
-    r.transfer(1, 0, 101)
-}
-
 fn writes() {
-    let r = two_bands(b"writes");
-    let r = r.transfer(1, 0, 200);
-    let r = r.transfer(1, 0, 201);
-    let r = r.transfer(1, 199, 1);
-    let r = r.transfer(1, 200, 1);
-    let r = r.transfer(1, 249, 1);
-    let r = r.transfer(1, 250, 1);
+    let r = two_bands();
+    let r = r.transfers(1, &[0, 200, 0, 201, 199, 1, 200, 1, 249, 1, 250, 1]);
     let r = r.transfer(0, 200, 50);
     r.end();
 }
 
 // The blocks of no other band.
 fn global_locked() {
-    let r = two_bands(b"global band locked");
+    let r = two_bands();
     let r = r.lock_write(0);
-    let r = r.transfer(1, 99, 1);
-    let r = r.transfer(1, 100, 50);
-    let r = r.transfer(1, 100, 51);
-    let r = r.transfer(1, 999, 1);
-    let r = r.transfer(1, 1_000, 0);
+    let r = r.transfers(1, &[99, 1, 100, 50, 100, 51, 999, 1, 1_000, 0]);
     let r = r.transfer(0, 0, 100);
     r.end();
 }
 
 // A band under a TRUE expression, and a Set with more and more of it right.
 fn band_precedence() {
-    let r = begin(b"band Set refusals in order", 1_000, 2, 1);
-    let r = r.set_band(1, 33, 1, 0, 0, 0, 0, &ALWAYS);
-    let r = r.set_band(2, 63, 2, 2, 0, 0, 8, b"\xF0");
-    let r = r.set_band(1, 63, 2, 0, 0, 0, 0, b"\xF0");
-    let r = r.set_band(1, 36, 0, 0, 0, 0, 0, b"\xF0");
+    let r = begin(1_000, 2, 1);
+    let r = r.set_band(1, 33, 1, 0, 0, 0, 0, Text::Always);
+    let r = r.set_band(2, 63, 2, 2, 0, 0, 8, Text::Cut);
+    let r = r.set_band(1, 63, 2, 0, 0, 0, 0, Text::Cut);
+    let r = r.set_band(1, 36, 0, 0, 0, 0, 0, Text::Cut);
     let r = too_long(r);
     let r = r.unlock_read(1);
-    let r = r.set_band(1, 36, 0, 0, 0, 0, 0, &NEVER);
+    let r = r.set_band(1, 36, 0, 0, 0, 0, 0, Text::Never);
     r.end();
 }
 
@@ -461,12 +509,12 @@ fn too_long(r: Run) -> Run {
     let mut tokens = [0; 258];
     token_writer::write(&codes, &mut tokens);
     tokens[257] = 0xF2;
-    r.set_band(1, 36, 0, 0, 0, 0, 0, &tokens)
+    r.set_tokens(1, band_columns(36, 0, 0, 0, 0, 0), &tokens)
 }
 
 // Each column above its range, and at it.
 fn band_ranges() {
-    let r = begin(b"band Set ranges", 1_000, 16, 0);
+    let r = begin(1_000, 16, 0);
     let r = r.set_locks(15, 1, 2, 0, 0, 0, 0);
     let r = r.set_locks(15, 2, 0, MOST, 0, 0, 0);
     let r = r.set_locks(15, 4, 0, 0, 256, 0, 0);
@@ -478,7 +526,7 @@ fn band_ranges() {
 }
 
 fn band_numbers(r: Run) -> Run {
-    let r = r.set_band(15, 0, MOST, MOST, MOST, MOST, MOST, b"\xF0");
+    let r = r.set_band(15, 0, MOST, MOST, MOST, MOST, MOST, Text::Cut);
     let r = r.set_locks(16, 0, 0, 0, 0, 0, 0);
     let r = r.set_locks(MOST, 31, MOST, MOST, MOST, MOST, MOST);
     r.set_locks(4_294_967_296, 4, 0, 0, 1, 0, 0)
@@ -486,9 +534,9 @@ fn band_numbers(r: Run) -> Run {
 
 // What no script holds: unknown mask bits, and more than 1,024 token bytes, named or not.
 fn outside_a_script() {
-    let r = begin(b"band Set outside a script", 1_000, 1, 0);
+    let r = begin(1_000, 1, 0);
     let r = r.set_locks(0, 64, 0, 0, 0, 0, 0);
-    let r = r.set_band(0, MOST, 1, 1, 1, 1, 7, &NEVER);
+    let r = r.set_band(0, MOST, 1, 1, 1, 1, 7, Text::Never);
     let r = r.set_locks(1, 64, 0, 0, 0, 0, 0);
     let r = more_bytes(r);
     let r = most_bytes(r);
@@ -497,20 +545,20 @@ fn outside_a_script() {
 
 fn more_bytes(r: Run) -> Run {
     let tokens = [0xF0; 1_025];
-    let r = r.set_band(0, 33, 1, 0, 0, 0, 0, &tokens);
-    let r = r.set_band(0, 1, 1, 0, 0, 0, 0, &tokens);
-    let r = r.set_band(0, 0, 0, 0, 0, 0, 0, &tokens);
-    r.set_band(1, 32, 0, 0, 0, 0, 0, &tokens)
+    let r = r.set_tokens(0, band_columns(33, 1, 0, 0, 0, 0), &tokens);
+    let r = r.set_tokens(0, band_columns(1, 1, 0, 0, 0, 0), &tokens);
+    let r = r.set_tokens(0, band_columns(0, 0, 0, 0, 0, 0), &tokens);
+    r.set_tokens(1, band_columns(32, 0, 0, 0, 0, 0), &tokens)
 }
 
 fn most_bytes(r: Run) -> Run {
     let tokens = [0xF0; 1_024];
-    let r = r.set_band(0, 37, 1, 0, 1, 0, 0, &tokens);
-    r.set_band(0, 8, 0, 0, 0, 1, 0, &tokens)
+    let r = r.set_tokens(0, band_columns(37, 1, 0, 1, 0, 0), &tokens);
+    r.set_tokens(0, band_columns(8, 0, 0, 0, 1, 0), &tokens)
 }
 
 fn sensor_refusals() {
-    let r = begin(b"sensor refusals", 1_000, 1, 2);
+    let r = begin(1_000, 1, 2);
     let r = r.reading(2, MOST);
     let r = r.reading(MOST, 0);
     let r = r.reading(1, 4_294_967_296_000);
@@ -541,7 +589,7 @@ fn sensor_ranges(r: Run) -> Run {
 }
 
 fn ranges() {
-    let r = begin(b"elapse and reset ranges", 1_000, 1, 0);
+    let r = begin(1_000, 1, 0);
     let r = r.elapse(4_294_967_296);
     let r = r.elapse(MOST);
     let r = r.elapse(4_294_967_295);
@@ -552,62 +600,49 @@ fn ranges() {
 }
 
 fn geometry_refusals() {
-    let r = begin(b"geometry refusals", 1_000, 3, 0);
-    let r = r.set_geometry(3, MOST, MOST);
-    let r = r.set_geometry(MOST, 0, 0);
-    let r = r.set_geometry(0, MOST, MOST);
-    let r = r.set_geometry(0, 0, 0);
-    let r = r.set_geometry(1, 1_000, 0);
-    let r = geometry_past_end(r);
-    let r = geometry_overlap(r);
+    let r = begin(1_000, 3, 0);
+    let r = r.geometries(&[3, MOST, MOST, MOST, 0, 0, 0, MOST, MOST, 0, 0, 0]);
+    let r = r.geometries(&[1, 1_000, 0, 1, 1_001, 0, 1, 1_000, 1, 1, MOST, MOST]);
+    let r = r.geometries(&[1, 1, MOST, 1, MOST, 1, 1, 0, 1_001, 1, 100, 50]);
+    let r = r.geometries(
+        &[
+            2,
+            120,
+            1_000,
+            2,
+            149,
+            1,
+            2,
+            149,
+            851,
+            2,
+            150,
+            851,
+            2,
+            150,
+            850,
+        ],
+    );
     r.end();
-}
-
-fn geometry_past_end(r: Run) -> Run {
-    let r = r.set_geometry(1, 1_001, 0);
-    let r = r.set_geometry(1, 1_000, 1);
-    let r = r.set_geometry(1, MOST, MOST);
-    let r = r.set_geometry(1, 1, MOST);
-    let r = r.set_geometry(1, MOST, 1);
-    let r = r.set_geometry(1, 0, 1_001);
-    r.set_geometry(1, 100, 50)
-}
-
-fn geometry_overlap(r: Run) -> Run {
-    let r = r.set_geometry(2, 120, 1_000);
-    let r = r.set_geometry(2, 149, 1);
-    let r = r.set_geometry(2, 149, 851);
-    let r = r.set_geometry(2, 150, 851);
-    r.set_geometry(2, 150, 850)
 }
 
 fn transfer_refusals() {
-    let r = begin(b"transfer refusals", 1_000, 1, 0);
+    let r = begin(1_000, 1, 0);
     let r = r.lock_read(0);
     let r = r.transfer(2, MOST, MOST);
     let r = r.transfer(MOST, 0, 0);
-    let r = r.transfer(0, 0, 1_001);
-    let r = r.transfer(0, 1_000, 1);
-    let r = r.transfer(0, 1_001, 0);
-    let r = transfer_numbers(r);
+    let r = r.transfers(0, &[0, 1_001, 1_000, 1, 1_001, 0]);
+    let r = r.transfers(1, &[MOST, 0, MOST, MOST, 1, MOST]);
+    let r = r.transfers(0, &[999, 1, 999, 0, 1_000, 0]);
+    let r = r.transfer(1, 0, 1_000);
     r.end();
-}
-
-fn transfer_numbers(r: Run) -> Run {
-    let r = r.transfer(1, MOST, 0);
-    let r = r.transfer(1, MOST, MOST);
-    let r = r.transfer(1, 1, MOST);
-    let r = r.transfer(0, 999, 1);
-    let r = r.transfer(0, 999, 0);
-    let r = r.transfer(0, 1_000, 0);
-    r.transfer(1, 0, 1_000)
 }
 
 // The read side under sensor 0.
 fn held() {
-    let r = begin(b"held", 1_000, 2, 1);
+    let r = begin(1_000, 2, 1);
     let r = r.enable(0, 0, 0);
-    let r = r.set_band(1, 33, 1, 0, 0, 0, 0, &A);
+    let r = r.set_band(1, 33, 1, 0, 0, 0, 0, Text::A);
     let r = r.reading(0, 5_000);
     let r = r.unlock_read(1);
     let r = r.unlock_write(1);
@@ -637,33 +672,33 @@ fn held_last(r: Run) -> Run {
 
 // The expression that a Set names decides, and a refused one is not stored.
 fn new_expression() {
-    let r = begin(b"the new expression", 1_000, 1, 1);
-    let r = r.set_band(0, 35, 1, 1, 0, 0, 0, &ALWAYS);
-    let r = r.set_band(0, 36, 0, 0, 0, 0, 0, &NOT_A);
-    let r = r.set_band(0, 44, 0, 0, 0, 0, 0, &NEVER);
-    let r = r.set_band(0, 44, 0, 0, 0, 0, 0, &ALWAYS);
-    let r = r.set_band(0, 44, 0, 0, 0, 1, 0, &NOT_A);
+    let r = begin(1_000, 1, 1);
+    let r = r.set_band(0, 35, 1, 1, 0, 0, 0, Text::Always);
+    let r = r.set_band(0, 36, 0, 0, 0, 0, 0, Text::NotA);
+    let r = r.set_band(0, 44, 0, 0, 0, 0, 0, Text::Never);
+    let r = r.set_band(0, 44, 0, 0, 0, 0, 0, Text::Always);
+    let r = r.set_band(0, 44, 0, 0, 0, 1, 0, Text::NotA);
     let r = r.unlock_read(0);
-    let r = r.set_band(0, 44, 0, 0, 1, 0, 0, &A);
+    let r = r.set_band(0, 44, 0, 0, 1, 0, 0, Text::A);
     r.end();
 }
 
 // A side that is enabled and unlocked in one Set, by its new columns and its new expression.
 fn new_columns() {
-    let r = begin(b"the new columns", 1_000, 1, 1);
-    let r = r.set_band(0, 32, 0, 0, 0, 0, 0, &ALWAYS);
+    let r = begin(1_000, 1, 1);
+    let r = r.set_band(0, 32, 0, 0, 0, 0, 0, Text::Always);
     let r = r.set_locks(0, 5, 1, 0, 0, 0, 0);
     let r = r.set_locks(0, 12, 0, 0, 0, 0, 0);
     let r = r.set_locks(0, 9, 1, 0, 0, 0, 0);
     let r = r.set_locks(0, 14, 0, 1, 0, 1, 0);
-    let r = r.set_band(0, 37, 0, 0, 0, 0, 0, b"\xF0\xF1\xF1");
-    let r = r.set_band(0, 37, 0, 0, 0, 0, 0, &A);
+    let r = r.set_band(0, 37, 0, 0, 0, 0, 0, Text::Cut);
+    let r = r.set_band(0, 37, 0, 0, 0, 0, 0, Text::A);
     r.end();
 }
 
 // Locked on a side that is not enabled.
 fn disabled_side() {
-    let r = begin(b"locked and disabled", 1_000, 1, 0);
+    let r = begin(1_000, 1, 0);
     let r = r.set_locks(0, 12, 0, 0, 1, 1, 0);
     let r = r.transfer(0, 0, 1_000);
     let r = r.transfer(1, 0, 1_000);
@@ -674,8 +709,8 @@ fn disabled_side() {
 }
 
 // Bands 1 to 5 with LockOnReset 1, 2, 4, 7 and 0 and the read side enabled; band 0 as it was fresh, with the write side enabled.
-fn reset_sets(title: &[u8]) -> Run {
-    let r = begin(title, 1_000, 6, 0);
+fn reset_sets() -> Run {
+    let r = begin(1_000, 6, 0);
     let r = r.set_locks(0, 2, 0, 1, 0, 0, 0);
     let r = r.set_locks(1, 17, 1, 0, 0, 0, 1);
     let r = r.set_locks(2, 17, 1, 0, 0, 0, 2);
@@ -684,15 +719,15 @@ fn reset_sets(title: &[u8]) -> Run {
     r.set_locks(5, 17, 1, 0, 0, 0, 0)
 }
 
-fn reset_with(title: &[u8], kind: u64) {
-    let r = reset_sets(title);
+fn reset_with(kind: u64) {
+    let r = reset_sets();
     let r = r.reset(kind);
     r.end();
 }
 
 // The sets of two types.
 fn reset_pairs() {
-    let r = begin(b"resets by turns", 1_000, 4, 0);
+    let r = begin(1_000, 4, 0);
     let r = r.set_locks(1, 19, 1, 1, 0, 0, 3);
     let r = r.set_locks(2, 19, 1, 1, 0, 0, 5);
     let r = r.set_locks(3, 19, 1, 1, 0, 0, 6);
@@ -705,8 +740,8 @@ fn reset_pairs() {
 }
 
 // Sensors settled TRUE, waiting both ways, and disabled with level TRUE.
-fn four_sensors(title: &[u8]) -> Run {
-    let r = begin(title, 1_000, 3, 4);
+fn four_sensors() -> Run {
+    let r = begin(1_000, 3, 4);
     let r = r.enable(0, 0, 0);
     let r = r.enable(1, 7, 0);
     let r = r.enable(2, 0, 9);
@@ -719,20 +754,20 @@ fn four_sensors(title: &[u8]) -> Run {
 
 // Band 1 is locked by its sensor; band 2, which no reset locks, when the power cycle makes its expression TRUE.
 fn two_expressions(r: Run) -> Run {
-    let r = r.set_band(1, 51, 1, 1, 0, 0, 0, &A);
-    let r = r.set_band(2, 51, 1, 0, 0, 0, 0, &NOT_A);
+    let r = r.set_band(1, 51, 1, 1, 0, 0, 0, Text::A);
+    let r = r.set_band(2, 51, 1, 0, 0, 0, 0, Text::NotA);
     r.elapse(2)
 }
 
 fn power_cycle() {
-    let r = two_expressions(four_sensors(b"power cycle"));
+    let r = two_expressions(four_sensors());
     let r = r.reset(0);
     r.end();
 }
 
 // The columns are kept: the same readings and ticks again.
 fn after_power_cycle() {
-    let r = two_expressions(four_sensors(b"after a power cycle"));
+    let r = two_expressions(four_sensors());
     let r = r.reset(0);
     let r = r.set_locks(1, 12, 0, 0, 0, 0, 0);
     let r = r.unlock_read(2);
@@ -745,66 +780,74 @@ fn after_power_cycle() {
 }
 
 fn other_resets() {
-    let r = two_expressions(four_sensors(b"other resets"));
+    let r = two_expressions(four_sensors());
     let r = r.reset(1);
     let r = r.reset(2);
     r.end();
 }
 
-// Sixteen bands, of which 1 to 15 fill the drive.
+// Sixteen bands, of which 1 to 15 come to fill the drive.
 fn tiled() {
-    let r = begin(b"sixteen bands and sensors", 1_500, 16, 16);
-    let r = r.set_geometry(1, 0, 100);
-    let r = r.set_geometry(2, 100, 100);
-    let r = r.set_geometry(3, 200, 100);
-    let r = r.set_geometry(15, 1_400, 100);
-    let r = r.set_geometry(14, 1_300, 100);
-    let r = tiles(r);
-    let r = more_tiles(r);
+    let r = begin(1_500, 16, 16);
+    let r = r.geometries(
+        &[
+            1,
+            0,
+            100,
+            2,
+            100,
+            100,
+            3,
+            200,
+            100,
+            15,
+            1_400,
+            100,
+            14,
+            1_300,
+            100,
+        ],
+    );
+    let r = r.geometries(&[13, 1_200, 100, 12, 1_100, 100, 11, 1_000, 100, 10, 900, 100]);
+    let r = r.geometries(&[4, 300, 100, 5, 400, 100, 6, 500, 100]);
     let r = tiles_moved(r);
     let r = tiles_freed(r);
     let r = last_sensor(r);
     r.end();
 }
 
-fn tiles(r: Run) -> Run {
-    let r = r.set_geometry(13, 1_200, 100);
-    let r = r.set_geometry(12, 1_100, 100);
-    let r = r.set_geometry(11, 1_000, 100);
-    let r = r.set_geometry(10, 900, 100);
-    let r = r.set_geometry(4, 300, 100);
-    let r = r.set_geometry(5, 400, 100);
-    r.set_geometry(6, 500, 100)
-}
-
-// One block too far at either end, and then all that is left.
-fn more_tiles(r: Run) -> Run {
-    let r = r.set_geometry(7, 599, 100);
-    let r = r.set_geometry(7, 600, 301);
-    let r = r.set_geometry(7, 600, 100);
-    let r = r.set_geometry(9, 699, 201);
-    let r = r.set_geometry(9, 800, 100);
-    let r = r.set_geometry(8, 700, 100);
-    r.set_geometry(15, 1_399, 101)
-}
-
-// A band about another, one within another, the same place, and a part of a band's own place.
+// One block too far at either end, and then all that is left. A band about another, one within another, the same place, and a part of a
+// band's own place.
 fn tiles_moved(r: Run) -> Run {
-    let r = r.set_geometry(8, 600, 300);
-    let r = r.set_geometry(8, 0, 1_500);
-    let r = r.set_geometry(8, 640, 20);
-    let r = r.set_geometry(8, 600, 100);
-    let r = r.set_geometry(8, 700, 100);
-    let r = r.set_geometry(8, 710, 80);
-    r.set_geometry(8, 701, 99)
+    let r = r.geometries(
+        &[
+            7,
+            599,
+            100,
+            7,
+            600,
+            301,
+            7,
+            600,
+            100,
+            9,
+            699,
+            201,
+            9,
+            800,
+            100,
+        ],
+    );
+    let r = r.geometries(&[8, 700, 100, 15, 1_399, 101]);
+    let r = r.geometries(&[8, 600, 300, 8, 0, 1_500, 8, 640, 20, 8, 600, 100]);
+    r.geometries(&[8, 700, 100, 8, 710, 80, 8, 701, 99])
 }
 
 // Length 0 frees the blocks, which are then band 0's, or another band's.
 fn tiles_freed(r: Run) -> Run {
     let r = r.set_geometry(7, 650, 0);
     let r = r.lock_read(0);
-    let r = r.transfer(0, 0, 600);
-    let r = r.transfer(0, 0, 601);
+    let r = r.transfers(0, &[0, 600, 0, 601]);
     let r = r.set_geometry(8, 600, 200);
     let r = r.transfer(0, 0, 1_500);
     r.set_geometry(7, 799, 1)
@@ -812,7 +855,7 @@ fn tiles_freed(r: Run) -> Run {
 
 // Sensor 15 locks band 15.
 fn last_sensor(r: Run) -> Run {
-    let r = r.set_band(15, 34, 0, 1, 0, 0, 0, &P);
+    let r = r.set_band(15, 34, 0, 1, 0, 0, 0, Text::P);
     let r = r.enable(15, 0, 0);
     let r = r.transfer(1, 0, 1_500);
     let r = r.reading(15, 5_000);
@@ -822,10 +865,10 @@ fn last_sensor(r: Run) -> Run {
 
 // Timers that end at the last tick and the one before it.
 fn longest_elapse() {
-    let r = begin(b"longest elapse", 100, 2, 2);
+    let r = begin(100, 2, 2);
     let r = r.enable(0, 4_294_967_294, 0);
     let r = r.enable(1, 4_294_967_295, 0);
-    let r = r.set_band(1, 33, 1, 0, 0, 0, 0, &A_AND_NOT_B);
+    let r = r.set_band(1, 33, 1, 0, 0, 0, 0, Text::AAndNotB);
     let r = r.reading(0, 5_000);
     let r = r.reading(1, 5_000);
     let r = r.elapse(4_294_967_296);
@@ -836,7 +879,7 @@ fn longest_elapse() {
 
 // The same less one tick, and an off-timeout that begins then.
 fn long_elapses() {
-    let r = begin(b"long elapses", 100, 2, 2);
+    let r = begin(100, 2, 2);
     let r = r.enable(0, 4_294_967_294, 4_294_967_295);
     let r = r.enable(1, 4_294_967_295, 0);
     let r = r.reading(0, 5_000);
@@ -847,43 +890,44 @@ fn long_elapses() {
     r.end();
 }
 
-// Starts a timer of a fresh sensor, whose level any reading turns TRUE.
-fn timer(r: Run, sensor: u64, timeout: u64) -> Run {
-    let r = r.set_sensor(sensor, 9, 1, 0, timeout, 0, 0);
-    r.reading(sensor, 0)
-}
-
-fn low_timers(r: Run) -> Run {
-    let r = timer(r, 0, 9);
-    let r = timer(r, 1, 3);
-    let r = timer(r, 2, 27);
-    let r = timer(r, 3, 81);
-    let r = timer(r, 4, 1);
-    let r = timer(r, 5, 2);
-    let r = timer(r, 6, 4);
-    timer(r, 7, 8)
-}
-
-// A tick apart from some of the low ones, and the greatest.
-fn high_timers(r: Run) -> Run {
-    let r = timer(r, 8, 16);
-    let r = timer(r, 9, 32);
-    let r = timer(r, 10, 64);
-    let r = timer(r, 11, 128);
-    let r = timer(r, 12, 10);
-    let r = timer(r, 13, 28);
-    let r = timer(r, 14, 82);
-    timer(r, 15, 4_294_967_295)
+// Some end a tick apart, and one at the last tick of the longest elapse.
+fn sixteen() -> Run {
+    let r = begin(1, 1, 16);
+    let r = r.timers(
+        &[
+            0,
+            9,
+            1,
+            3,
+            2,
+            27,
+            3,
+            81,
+            4,
+            1,
+            5,
+            2,
+            6,
+            4,
+            7,
+            8,
+            8,
+            16,
+            9,
+            32,
+        ],
+    );
+    r.timers(&[10, 64, 11, 128, 12, 10, 13, 28, 14, 82, 15, 4_294_967_295])
 }
 
 fn sixteen_timers() {
-    let r = high_timers(low_timers(begin(b"sixteen timers", 1, 1, 16)));
+    let r = sixteen();
     let r = r.elapse(4_294_967_295);
     r.end();
 }
 
 fn sixteen_timers_in_parts() {
-    let r = high_timers(low_timers(begin(b"sixteen timers in parts", 1, 1, 16)));
+    let r = sixteen();
     let r = r.elapse(0);
     let r = r.elapse(9);
     let r = r.elapse(54);
@@ -893,9 +937,8 @@ fn sixteen_timers_in_parts() {
 
 // Timers that end together are one stop.
 fn equal_timers() {
-    let r = timer(begin(b"equal timers", 1, 1, 3), 0, 3);
-    let r = timer(r, 2, 3);
-    let r = timer(r, 1, 4);
+    let r = begin(1, 1, 3);
+    let r = r.timers(&[0, 3, 2, 3, 1, 4]);
     let r = r.elapse(3);
     let r = r.elapse(0);
     r.end();
@@ -915,7 +958,6 @@ fn header(capacity: u64, bands: u64, sensors: u64) {
 }
 
 fn headers() {
-    print(b"headers\n");
     header(1, 1, 0);
     header(281_474_976_710_656, 16, 16);
     header(0, 1, 0);
@@ -928,75 +970,103 @@ fn headers() {
 
 // The drive of a header out of range.
 fn least_drive() {
-    let r = begin(b"header out of range", 1_000, 17, 2);
+    let r = begin(1_000, 17, 2);
     let r = r.reading(0, 0);
     let r = r.set_geometry(1, 0, 0);
-    let r = r.set_band(0, 36, 0, 0, 1, 0, 0, &ALWAYS);
-    let r = r.transfer(0, 0, 1);
-    let r = r.transfer(0, 1, 0);
-    let r = r.transfer(0, 0, 2);
+    let r = r.set_band(0, 36, 0, 0, 1, 0, 0, Text::Always);
+    let r = r.transfers(0, &[0, 1, 1, 0, 0, 2]);
     r.end();
 }
 
 fn greatest_drive() {
-    let r = begin(b"greatest drive", 281_474_976_710_656, 16, 16);
+    let r = begin(281_474_976_710_656, 16, 16);
     let r = r.set_geometry(1, 0, 281_474_976_710_656);
     let r = r.lock_read(1);
     let r = r.transfer(0, 281_474_976_710_655, 1);
     let r = r.transfer(1, 281_474_976_710_655, 1);
-    let r = r.transfer(0, 281_474_976_710_655, 2);
-    let r = r.transfer(0, 281_474_976_710_656, 0);
+    let r = r.transfers(0, &[281_474_976_710_655, 2, 281_474_976_710_656, 0]);
     let r = r.set_geometry(1, 281_474_976_710_655, 1);
     let r = r.transfer(0, 0, 281_474_976_710_655);
     r.end();
 }
 
 fn expressions() {
+    title(1);
     worked();
+    title(2);
     applied();
+    title(3);
     in_one_elapse();
+    title(4);
     in_ticks();
+    title(5);
     before_the_second();
 }
 
 fn transfers() {
+    title(6);
     reads();
+    title(7);
     writes();
+    title(8);
     global_locked();
 }
 
 fn refusals() {
+    title(9);
     band_precedence();
+    title(10);
     band_ranges();
+    title(11);
     outside_a_script();
+    title(12);
     sensor_refusals();
+    title(13);
     ranges();
+    title(14);
     geometry_refusals();
+    title(15);
     transfer_refusals();
 }
 
 fn locks() {
+    title(16);
     held();
+    title(17);
     new_expression();
+    title(18);
     new_columns();
+    title(19);
     disabled_side();
 }
 
 fn resets() {
-    reset_with(b"reset 0", 0);
-    reset_with(b"reset 1", 1);
-    reset_with(b"reset 2", 2);
+    title(20);
+    reset_with(0);
+    title(21);
+    reset_with(1);
+    title(22);
+    reset_with(2);
+    title(23);
     reset_pairs();
+    title(24);
     power_cycle();
+    title(25);
     after_power_cycle();
+    title(26);
     other_resets();
 }
 
 fn timers() {
+    title(28);
     longest_elapse();
+    title(29);
     long_elapses();
+    title(30);
     sixteen_timers();
+    title(31);
     sixteen_timers_in_parts();
+    title(32);
     equal_timers();
 }
 
@@ -1006,9 +1076,13 @@ fn main() {
     refusals();
     locks();
     resets();
+    title(27);
     tiled();
     timers();
+    title(33);
     headers();
+    title(34);
     least_drive();
+    title(35);
     greatest_drive();
 }
