@@ -61,14 +61,15 @@ module _ (s : List ℕ) (most : ℕ) (answers stops : List ℕ) (r : Ran) (answe
 
   pub holds : Holds s most r answers'
   holds = record {
-    isolation = λ t capacity bands sensors es fs w q band b c.
+    isolation = λ t capacity bands sensors es capacity' bands' sensors' fs w q ec eb en band b c.
         let d = ended capacity bands sensors es w .drive-is in
         let f = accepted-is s capacity bands sensors es (w .reads) .fits in
         let same = condition-3 .isolation capacity bands sensors f band b es fs c in
+        let fresh : freshDrive capacity bands sensors ≡ freshDrive capacity' bands' sensors' = rw (ec, eb, en) in
         record {
-          row = ap (λ (x : Drive). rowAt x band) d ∙ same .row;
-          value = ap (λ (x : Drive). valueAt x band) d ∙ same .value;
-          own = own-are band capacity bands sensors es w ∙ same .answers;
+          row = ap (λ (x : Drive). rowAt x band) d ∙ same .row ∙ ap (λ (x : Drive). rowAt (runOf x fs) band) fresh;
+          value = ap (λ (x : Drive). valueAt x band) d ∙ same .value ∙ ap (λ (x : Drive). valueAt (runOf x fs) band) fresh;
+          own = own-are band capacity bands sensors es w ∙ same .answers ∙ ap (λ (x : Drive). answersTo band x fs) fresh;
         };
     history = λ capacity bands sensors es w band b side.
         let d = ended capacity bands sensors es w .drive-is in

@@ -38,9 +38,11 @@ pub record LikeEvents (band : ℕ) (r : Ran) (es : List Event) (answers : List �
 -- Condition 3 of this run: against every script t that reads to its end with an equal header, and the history rule, for every band that the
 -- header counts
 pub record Holds (s : List ℕ) (most : ℕ) (r : Ran) (answers : List ℕ) : Type 0 where
-  pub isolation : (t : List ℕ) (capacity bands sensors : ℕ) (es fs : List Event) → RanWhole s most r capacity bands sensors es
-      → readScript t ≡ accepted capacity bands sensors fs → (band : ℕ) → band < bands → compared band es ≡ compared band fs
-      → LikeEvents band r es answers (freshDrive capacity bands sensors) fs
+  pub isolation : (t : List ℕ) (capacity bands sensors : ℕ) (es : List Event) (capacity' bands' sensors' : ℕ) (fs : List Event)
+      → RanWhole s most r capacity bands sensors es → readScript t ≡ accepted capacity' bands' sensors' fs
+      → capacity ≡ capacity' → bands ≡ bands' → sensors ≡ sensors'
+      → (band : ℕ) → band < bands → compared band es ≡ compared band fs
+      → LikeEvents band r es answers (freshDrive capacity' bands' sensors') fs
   pub history : (capacity bands sensors : ℕ) (es : List Event) → RanWhole s most r capacity bands sensors es → (band : ℕ) → band < bands
       → (side : Side)
       → (lockedOn side (rowAt (r .drive) band) ≡ true) ↔ LockedByHistory side band (moments (freshDrive capacity bands sensors) es)
