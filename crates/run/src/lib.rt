@@ -41,7 +41,7 @@ fn byte(stops: u64, sensors: [Sensor; 16]) -> u8
 fn run_event(script: &[u8], at: usize, drive: Drive) -> Turn
     ensures { λ r. ⌜ turnIn r ≡ turnOf drive at (eventAt (now (script .entry)) at) ⌝ }
 {
-    let EventRead::Is(kind, start, count, next) = script::event_at(script, at) else {
+    let EventRead::Is(kind, start, count, next) = reader::next_event(script, at) else {
         return Turn {
             answer: 0,
             stops: 0,

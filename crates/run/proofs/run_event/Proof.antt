@@ -3,8 +3,8 @@ use borrow.Author.Needs.{needs}
 use Rattle.run.proofs.run_event.Statement.{statement}
 use Rattle.run.proofs.run_event.Tie as tie
 
-event-at-requires : tie.Need-event-at-requires
-event-at-requires c κs = search needs
+next-event-requires : tie.Need-next-event-requires
+next-event-requires c κs = search needs
 
 enum-known-kind : tie.Need-enum-known-kind
 enum-known-kind c = search needs
@@ -34,7 +34,7 @@ pub run-event-spec : {M : Type 1} → statement M
 run-event-spec =
     tie.close
     (tie.spec
-    event-at-requires
+    next-event-requires
     enum-known-kind
     enum-told
     returns

@@ -1,0 +1,47 @@
+// The reader of a script (document 01, 'Script'): it "keeps the script and its cursor as one thing".
+ghost use mathlib.Core.Path.{_≡_};
+ghost use Rattle.numbers.specs.Groups.{foundIn, numberAt};
+ghost use Rattle.script.specs.Fields.{parsedIn, eventAt, tokensAt};
+use numbers::Number;
+use script::EventRead;
+
+// A script, and the place in it that is read next.
+pub struct Reader<'a> {
+    pub script: &'a [u8],
+    pub at: usize,
+}
+
+// A reader at a place of a script.
+pub fn new<'a>(script: &'a [u8], at: usize) -> Reader<'a>
+    ensures { λ r. ⌜ (r .script ≡ script .entry) × (r .at ≡ at) ⌝ }
+{
+    Reader { script, at }
+}
+
+// The number at the reader's place.
+pub fn number<'a>(r: Reader<'a>) -> Number
+    ensures { λ s. ⌜ foundIn s ≡ numberAt (now (r .entry .script)) (r .entry .at) ⌝ }
+{
+    numbers::number_at(r.script, r.at)
+}
+
+// The event at the reader's place.
+pub fn event<'a>(r: Reader<'a>) -> EventRead
+    ensures { λ s. ⌜ parsedIn (now (r .entry .script)) s ≡ eventAt (now (r .entry .script)) (r .entry .at) ⌝ }
+{
+    script::event_at(r.script, r.at)
+}
+
+// So many bytes at the reader's place, as a part of the script itself; no bytes where they would not lie in it.
+pub fn part<'a>(r: Reader<'a>, count: usize) -> &'a [u8]
+    ensures { λ q. ⌜ now q ≡ tokensAt (now (r .entry .script)) (r .entry .at) count ⌝ }
+{
+    script::tokens_at(r.script, r.at, count)
+}
+
+// The event at a place of a script, by way of a reader.
+pub fn next_event(script: &[u8], at: usize) -> EventRead
+    ensures { λ r. ⌜ parsedIn (now (script .entry)) r ≡ eventAt (now (script .entry)) at ⌝ }
+{
+    event(new(script, at))
+}
