@@ -1,11 +1,12 @@
 -- Condition 3 of a run, from what the run hands back.
 use mathlib.Core.Path.{_≡_, refl, sym, ap, _∙_, subst}
-use Prim.Native.Nat.{ℕ}
+use Prim.Native.Nat.{ℕ, zero, suc, _-_, _≤_}
 use native.Mathlib.Omega.{arith}
 use mathlib.Core.Logic.{_↔_}
 use mathlib.Core.Bool.{Bool, true, false, cond, _&&_}
 use mathlib.Core.List.{List, [], _∷_, _++_}
-use lib.Dec.{leb}
+use lib.Dec.{leb, ltb}
+use borrow.Author.Tests.{ltb-false}
 use lib.ListN.{length}
 use Rattle.answer.specs.Numbers.{numberOf}
 use Rattle.band.specs.Rows.{lockedOn}
@@ -18,10 +19,11 @@ use Rattle.condition.proofs.Condition.{condition-3}
 use Rattle.answer.specs.declared.Answer.the-variants.{BadScript}
 use Rattle.script.specs.declared.Checked.{Checked}
 use Rattle.script.specs.declared.Checked.the-variants as C
-use Rattle.script.specs.Whole.{Script, readScript, checkedIn, checkOf}
+use Rattle.script.specs.Fields.{Parsed, event, broken, eventAt}
+use Rattle.script.specs.Whole.{headerAt, Events, events, badFrom, before, andThen, eventsIn, eventsFrom, Script, accepted, bad, withHeader, readScript, checkedIn, checkOf}
 use Rattle.run.specs.declared.Ran.{Ran}
 use Rattle.run.specs.Outcome.{along, answersOf, stopsIn, over, outcome, outcomeIn, refusedRun, runEvents, runScript, fewerOf, Refuses, RunsFirst}
-use Rattle.run.specs.Holds.{ownAnswers, RanWhole, Holds}
+use Rattle.run.specs.Holds.{ownAnswers, RanWhole, Holds, RunWhole, HoldsOfTwo}
 use Rattle.run.proofs.Whole.{all-taken, accepted-is, bad-script, script-run}
 
 -- the answers written to a band's Sets are the answers to its Sets
@@ -61,11 +63,11 @@ module _ (s : List ℕ) (most : ℕ) (answers stops : List ℕ) (r : Ran) (answe
 
   pub holds : Holds s most r answers'
   holds = record {
-    isolation = λ t capacity bands sensors es capacity' bands' sensors' fs w q ec eb en band b c.
+    isolation = λ t capacity bands sensors es capacity' bands' sensors' fs w q h band b c.
         let d = ended capacity bands sensors es w .drive-is in
         let f = accepted-is s capacity bands sensors es (w .reads) .fits in
         let same = condition-3 .isolation capacity bands sensors f band b es fs c in
-        let fresh : freshDrive capacity bands sensors ≡ freshDrive capacity' bands' sensors' = rw (ec, eb, en) in
+        let fresh : freshDrive capacity bands sensors ≡ freshDrive capacity' bands' sensors' = rw (h .0, h .1, h .2) in
         record {
           row = ap (λ (x : Drive). rowAt x band) d ∙ same .row ∙ ap (λ (x : Drive). rowAt (runOf x fs) band) fresh;
           value = ap (λ (x : Drive). valueAt x band) d ∙ same .value ∙ ap (λ (x : Drive). valueAt (runOf x fs) band) fresh;
@@ -86,3 +88,50 @@ module _ (s : List ℕ) (most : ℕ) (answers stops : List ℕ) (k : Checked) (e
   pub run-holds : (all count : ℕ) (r : Ran) (answers' stops' : List ℕ) → k ≡ C.Reads all → count ≡ fewerOf all most
       → RunsFirst s count answers stops r answers' stops' → Holds s most r answers'
   run-holds all count r answers' stops' q c p = holds s most answers stops r answers' stops' (script-run s most answers stops k e all count r answers' stops' q c p)
+
+-- ---- two runs
+
+-- a script that is accepted is not overlong
+short : (s : List ℕ) (capacity bands sensors : ℕ) (es : List Event) → readScript s ≡ accepted capacity bands sensors es → length s ≤ 65536
+unfolding readScript
+short s capacity bands sensors es h = go (ltb 65536 (length s)) refl h
+  where
+    go : (t : Bool) → ltb 65536 (length s) ≡ t → cond t (bad 0) (withHeader s (headerAt s)) ≡ accepted capacity bands sensors es → length s ≤ 65536
+    go true p h = let z : _≡_ {A = ℕ} 0 1 = cc in absurd (omega arith)
+    go false p h = let l = ltb-false 65536 (length s) p in omega (arith, l)
+
+-- a script has no more events than bytes
+few-events : (k : ℕ) (s : List ℕ) (at : ℕ) (es : List Event) → eventsIn k s at ≡ events es → length es ≤ k
+unfolding eventsIn
+few-events zero s at es h = let e : es ≡ [] = cc in rw e (omega arith)
+few-events (suc k) s at es h = go (λ n fs. few-events k s n fs) (ltb at (length s)) (eventAt s at) h
+  where
+    first : ((n : ℕ) (fs : List Event) → eventsIn k s n ≡ events fs → length fs ≤ k) → (e : Event) (n : ℕ) (o : Events) → eventsIn k s n ≡ o → before e o ≡ events es → length es ≤ suc k
+    first ih e n (events fs) p q = let w : (e ∷ fs) ≡ es = cc in rw (← w) (omega (arith, ih n fs p))
+    first ih e n (badFrom x) p q = let z : _≡_ {A = ℕ} 0 1 = cc in absurd (omega arith)
+
+    go : ((n : ℕ) (fs : List Event) → eventsIn k s n ≡ events fs → length fs ≤ k) → (t : Bool) (p : Parsed) → cond t (andThen at p (λ n. eventsIn k s n)) (events []) ≡ events es → length es ≤ suc k
+    go ih true (event e n) q = first ih e n (eventsIn k s n) refl q
+    go ih true broken q = let z : _≡_ {A = ℕ} 0 1 = cc in absurd (omega arith)
+    go ih false p q = let e : es ≡ [] = cc in rw e (omega arith)
+
+whole : (s : List ℕ) (r : Ran) (capacity bands sensors : ℕ) (es : List Event) → RunWhole s r capacity bands sensors es → RanWhole s 65536 r capacity bands sensors es
+unfolding eventsFrom
+whole s r capacity bands sensors es w =
+    let a = accepted-is s capacity bands sensors es (w .reads) in
+    record { reads = w .reads; all = omega (arith, few-events (length s - a .next) s (a .next) es (a .after), short s capacity bands sensors es (w .reads)); done = w .done }
+
+pub two-hold : (s t : List ℕ) (answers stops answers2 stops2 : List ℕ) (r q : Ran) (answers' stops' answers2' stops2' : List ℕ)
+    → outcomeIn r answers' stops' ≡ runScript (readScript s) 65536 answers stops → outcomeIn q answers2' stops2' ≡ runScript (readScript t) 65536 answers2 stops2
+    → HoldsOfTwo s t (record { first = r; second = q }) answers' answers2'
+two-hold s t answers stops answers2 stops2 r q answers' stops' answers2' stops2' o p = record {
+  isolation = λ capacity bands sensors es capacity' bands' sensors' fs w v h band b c.
+      let x = holds s 65536 answers stops r answers' stops' o .isolation t capacity bands sensors es capacity' bands' sensors' fs (whole s r capacity bands sensors es w) (v .reads) h band b c in
+      let y = whole t q capacity' bands' sensors' fs v in
+      let d = ended t 65536 answers2 stops2 q answers2' stops2' p capacity' bands' sensors' fs y .drive-is in
+      record {
+        row = x .row ∙ sym (ap (λ (z : Drive). rowAt z band) d);
+        value = x .value ∙ sym (ap (λ (z : Drive). valueAt z band) d);
+        own = x .own ∙ sym (own-are t 65536 answers2 stops2 q answers2' stops2' p band capacity' bands' sensors' fs y);
+      };
+}

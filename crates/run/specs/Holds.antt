@@ -15,6 +15,7 @@ use Rattle.condition.specs.History.{ownSet, moments, LockedByHistory}
 use Rattle.condition.specs.Compared.{compared, answersTo}
 use Rattle.script.specs.Whole.{accepted, readScript}
 use Rattle.run.specs.declared.Ran.{Ran}
+use Rattle.run.specs.declared.RanTwo.{RanTwo}
 
 -- of the bytes written for a list of events, those that answer a Set of the band
 unfoldable pub ownAnswers : ℕ → List Event → List ℕ → List ℕ
@@ -35,14 +36,35 @@ pub record LikeEvents (band : ℕ) (r : Ran) (es : List Event) (answers : List �
   pub value : valueAt (r .drive) band ≡ valueAt (runOf fresh fs) band
   pub own : ownAnswers band es answers ≡ answersTo band fresh fs
 
+-- "have equal headers"
+abbrev pub EqualHeaders : (capacity bands sensors capacity' bands' sensors' : ℕ) → Type 0
+EqualHeaders capacity bands sensors capacity' bands' sensors' = (capacity ≡ capacity') × (bands ≡ bands') × (sensors ≡ sensors')
+
 -- Condition 3 of this run: against every script t that reads to its end with an equal header, and the history rule, for every band that the
 -- header counts
 pub record Holds (s : List ℕ) (most : ℕ) (r : Ran) (answers : List ℕ) : Type 0 where
   pub isolation : (t : List ℕ) (capacity bands sensors : ℕ) (es : List Event) (capacity' bands' sensors' : ℕ) (fs : List Event)
       → RanWhole s most r capacity bands sensors es → readScript t ≡ accepted capacity' bands' sensors' fs
-      → capacity ≡ capacity' → bands ≡ bands' → sensors ≡ sensors'
+      → EqualHeaders capacity bands sensors capacity' bands' sensors'
       → (band : ℕ) → band < bands → compared band es ≡ compared band fs
       → LikeEvents band r es answers (freshDrive capacity' bands' sensors') fs
   pub history : (capacity bands sensors : ℕ) (es : List Event) → RanWhole s most r capacity bands sensors es → (band : ℕ) → band < bands
       → (side : Side)
       → (lockedOn side (rowAt (r .drive) band) ≡ true) ↔ LockedByHistory side band (moments (freshDrive capacity bands sensors) es)
+
+-- a script that was run whole: a script has no more events than bytes, so 65,536 events are all of them
+pub record RunWhole (s : List ℕ) (r : Ran) (capacity bands sensors : ℕ) (es : List Event) : Type 0 where
+  pub reads : readScript s ≡ accepted capacity bands sensors es
+  pub done : numberOf (r .answer) ≡ 0
+
+pub record LikeBands (band : ℕ) (r : RanTwo) (es fs : List Event) (answers answers2 : List ℕ) : Type 0 where
+  pub row : rowAt (r .first .drive) band ≡ rowAt (r .second .drive) band
+  pub value : valueAt (r .first .drive) band ≡ valueAt (r .second .drive) band
+  pub own : ownAnswers band es answers ≡ ownAnswers band fs answers2
+
+-- Condition 3 of two runs, on the two results and the two sets of answers themselves
+pub record HoldsOfTwo (s t : List ℕ) (r : RanTwo) (answers answers2 : List ℕ) : Type 0 where
+  pub isolation : (capacity bands sensors : ℕ) (es : List Event) (capacity' bands' sensors' : ℕ) (fs : List Event)
+      → RunWhole s (r .first) capacity bands sensors es → RunWhole t (r .second) capacity' bands' sensors' fs
+      → EqualHeaders capacity bands sensors capacity' bands' sensors'
+      → (band : ℕ) → band < bands → compared band es ≡ compared band fs → LikeBands band r es fs answers answers2

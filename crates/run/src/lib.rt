@@ -4,7 +4,7 @@ ghost use Prim.Native.Nat.{_≤_};
 ghost use lib.ListN.{length};
 ghost use Rattle.script.specs.Fields.{eventAt};
 ghost use Rattle.script.specs.Whole.{readScript};
-ghost use Rattle.run.specs.Holds.{Holds};
+ghost use Rattle.run.specs.Holds.{Holds, HoldsOfTwo};
 ghost use Rattle.run.specs.Outcome.{turnIn, turnOf, Goes, fewerOf, Refuses, RunsFirst, outcomeIn, runScript};
 use answer::Answer;
 use drive::Drive;
@@ -19,6 +19,12 @@ pub struct Ran {
     pub place: usize,
     pub count: usize,
     pub drive: Drive,
+}
+
+// What two runs hand back.
+pub struct RanTwo {
+    pub first: Ran,
+    pub second: Ran,
 }
 
 // One event run: the bytes that tell of it, the drive it left, and the place after it.
@@ -145,5 +151,26 @@ pub fn run(script: &[u8], most: u64, answers: &mut [u8], stops: &mut [u8]) -> Ra
     match script::check(script) {
         Checked::Reads(all) => run_first(script, fewer(all, most), answers, stops),
         Checked::BadAt(place) => refused(Answer::BadScript, place),
+    }
+}
+
+// Runs two scripts whole, each into its own buffers.
+pub fn run_two(
+    first: &[u8],
+    second: &[u8],
+    answers: &mut [u8],
+    stops: &mut [u8],
+    answers2: &mut [u8],
+    stops2: &mut [u8],
+) -> RanTwo
+    ensures { λ r. ⌜ outcomeIn (r .first) (now (answers .exit)) (now (stops .exit)) ≡ runScript (readScript (now (first .entry))) 65536 (now (answers .entry)) (now (stops .entry)) ⌝ }
+    ensures second { λ r. ⌜ outcomeIn (r .second) (now (answers2 .exit)) (now (stops2 .exit)) ≡ runScript (readScript (now (second .entry))) 65536 (now (answers2 .entry)) (now (stops2 .entry)) ⌝ }
+    ensures condition { λ r. ⌜ HoldsOfTwo (now (first .entry)) (now (second .entry)) r (now (answers .exit)) (now (answers2 .exit)) ⌝ }
+{
+    let one = run(first, 65_536, answers, stops);
+    let two = run(second, 65_536, answers2, stops2);
+    RanTwo {
+        first: one,
+        second: two,
     }
 }
