@@ -1,12 +1,11 @@
 -- Condition 3 of a run, from what the run hands back.
 use mathlib.Core.Path.{_≡_, refl, sym, ap, _∙_, subst}
-use Prim.Native.Nat.{ℕ, zero, suc, _-_, _≤_}
+use Prim.Native.Nat.{ℕ}
 use native.Mathlib.Omega.{arith}
 use mathlib.Core.Logic.{_↔_}
 use mathlib.Core.Bool.{Bool, true, false, cond, _&&_}
 use mathlib.Core.List.{List, [], _∷_, _++_}
-use lib.Dec.{leb, ltb}
-use borrow.Author.Tests.{ltb-false}
+use lib.Dec.{leb}
 use lib.ListN.{length}
 use Rattle.answer.specs.Numbers.{numberOf}
 use Rattle.band.specs.Rows.{lockedOn}
@@ -19,8 +18,8 @@ use Rattle.condition.proofs.Condition.{condition-3}
 use Rattle.answer.specs.declared.Answer.the-variants.{BadScript}
 use Rattle.script.specs.declared.Checked.{Checked}
 use Rattle.script.specs.declared.Checked.the-variants as C
-use Rattle.script.specs.Fields.{Parsed, event, broken, eventAt}
-use Rattle.script.specs.Whole.{headerAt, Events, events, badFrom, before, andThen, eventsIn, eventsFrom, Script, accepted, bad, withHeader, readScript, checkedIn, checkOf}
+use Rattle.script.specs.Whole.{Script, readScript, checkedIn, checkOf}
+use Rattle.script.proofs.Few.{few-events}
 use Rattle.run.specs.declared.Ran.{Ran}
 use Rattle.run.specs.Outcome.{along, answersOf, stopsIn, over, outcome, outcomeIn, refusedRun, runEvents, runScript, fewerOf, Refuses, RunsFirst}
 use Rattle.run.specs.Holds.{ownAnswers, RanWhole, Holds, RunWhole, HoldsOfTwo}
@@ -91,35 +90,10 @@ module _ (s : List ℕ) (most : ℕ) (answers stops : List ℕ) (k : Checked) (e
 
 -- ---- two runs
 
--- a script that is accepted is not overlong
-short : (s : List ℕ) (capacity bands sensors : ℕ) (es : List Event) → readScript s ≡ accepted capacity bands sensors es → length s ≤ 65536
-unfolding readScript
-short s capacity bands sensors es h = go (ltb 65536 (length s)) refl h
-  where
-    go : (t : Bool) → ltb 65536 (length s) ≡ t → cond t (bad 0) (withHeader s (headerAt s)) ≡ accepted capacity bands sensors es → length s ≤ 65536
-    go true p h = let z : _≡_ {A = ℕ} 0 1 = cc in absurd (omega arith)
-    go false p h = let l = ltb-false 65536 (length s) p in omega (arith, l)
-
--- a script has no more events than bytes
-few-events : (k : ℕ) (s : List ℕ) (at : ℕ) (es : List Event) → eventsIn k s at ≡ events es → length es ≤ k
-unfolding eventsIn
-few-events zero s at es h = let e : es ≡ [] = cc in rw e (omega arith)
-few-events (suc k) s at es h = go (λ n fs. few-events k s n fs) (ltb at (length s)) (eventAt s at) h
-  where
-    first : ((n : ℕ) (fs : List Event) → eventsIn k s n ≡ events fs → length fs ≤ k) → (e : Event) (n : ℕ) (o : Events) → eventsIn k s n ≡ o → before e o ≡ events es → length es ≤ suc k
-    first ih e n (events fs) p q = let w : (e ∷ fs) ≡ es = cc in rw (← w) (omega (arith, ih n fs p))
-    first ih e n (badFrom x) p q = let z : _≡_ {A = ℕ} 0 1 = cc in absurd (omega arith)
-
-    go : ((n : ℕ) (fs : List Event) → eventsIn k s n ≡ events fs → length fs ≤ k) → (t : Bool) (p : Parsed) → cond t (andThen at p (λ n. eventsIn k s n)) (events []) ≡ events es → length es ≤ suc k
-    go ih true (event e n) q = first ih e n (eventsIn k s n) refl q
-    go ih true broken q = let z : _≡_ {A = ℕ} 0 1 = cc in absurd (omega arith)
-    go ih false p q = let e : es ≡ [] = cc in rw e (omega arith)
-
+-- a script has at most 32,766 events
 whole : (s : List ℕ) (r : Ran) (capacity bands sensors : ℕ) (es : List Event) → RunWhole s r capacity bands sensors es → RanWhole s 65536 r capacity bands sensors es
-unfolding eventsFrom
 whole s r capacity bands sensors es w =
-    let a = accepted-is s capacity bands sensors es (w .reads) in
-    record { reads = w .reads; all = omega (arith, few-events (length s - a .next) s (a .next) es (a .after), short s capacity bands sensors es (w .reads)); done = w .done }
+    record { reads = w .reads; all = omega (arith, few-events s capacity bands sensors es (w .reads)); done = w .done }
 
 pub two-hold : (s t : List ℕ) (answers stops answers2 stops2 : List ℕ) (r q : Ran) (answers' stops' answers2' stops2' : List ℕ)
     → outcomeIn r answers' stops' ≡ runScript (readScript s) 65536 answers stops → outcomeIn q answers2' stops2' ≡ runScript (readScript t) 65536 answers2 stops2

@@ -52,7 +52,7 @@ pub record Holds (s : List ℕ) (most : ℕ) (r : Ran) (answers : List ℕ) : Ty
       → (side : Side)
       → (lockedOn side (rowAt (r .drive) band) ≡ true) ↔ LockedByHistory side band (moments (freshDrive capacity bands sensors) es)
 
--- a script that was run whole: a script has no more events than bytes, so 65,536 events are all of them
+-- a script that was run whole: a script has at most 32,766 events (`few-events` of crate script), so 65,536 are all of them
 pub record RunWhole (s : List ℕ) (r : Ran) (capacity bands sensors : ℕ) (es : List Event) : Type 0 where
   pub reads : readScript s ≡ accepted capacity bands sensors es
   pub done : numberOf (r .answer) ≡ 0

@@ -1,3 +1,4 @@
 pub mod Chains
 pub mod Progress
 pub mod Checking
+pub mod Few

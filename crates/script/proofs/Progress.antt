@@ -1,11 +1,12 @@
--- An event ends after the place at which it starts.
-use mathlib.Core.Path.{_≡_, subst}
-use Prim.Native.Nat.{ℕ, _+_, _-_, _*_, _%_, _≤_, _<_}
+-- An event ends at least two bytes after the place at which it starts, and within the script.
+use mathlib.Core.Path.{_≡_, refl, subst}
+use Prim.Native.Nat.{ℕ, suc, _+_, _-_, _*_, _%_, _≤_, _<_}
 use native.Mathlib.Omega.{arith}
 use mathlib.Core.List.{List, [], _∷_}
 use mathlib.Core.Bool.{Bool, true, false, cond}
 use lib.Dec.{eqb, leb, ltb}
-use lib.ListN.{length, drop}
+use lib.ListN.{length, drop, drop-of-length-le, length-drop}
+use borrow.Author.Tests.{ltb-true, ltb-false, leb-true}
 use Rattle.base.specs.Columns.{named}
 use Rattle.numbers.specs.Groups.{Found, found, none, prefixed, numberFrom, numberAt}
 use Rattle.drive.specs.Events.{Event}
@@ -33,143 +34,170 @@ use Rattle.script.specs.Fields.{
   eventAt,
 }
 
--- what was found ends at or after a place
+-- what was found ends between two places
 
-abbrev NumberFrom : ℕ → Found → Type 0
-NumberFrom at (found v n) = at ≤ n
-NumberFrom at none = Unit {0}
+abbrev pub NumberIn : ℕ → ℕ → Found → Type 0
+NumberIn a z (found v n) = (a ≤ n) × (n ≤ z)
+NumberIn a z none = Unit {0}
 
-abbrev StretchFrom : ℕ → Stretch → Type 0
-StretchFrom at (stretch start count n) = at ≤ n
-StretchFrom at cut = Unit {0}
+abbrev StretchIn : ℕ → ℕ → Stretch → Type 0
+StretchIn a z (stretch start count n) = (a ≤ n) × (n ≤ z)
+StretchIn a z cut = Unit {0}
 
-abbrev EventFrom : ℕ → Parsed → Type 0
-EventFrom at (event e n) = at ≤ n
-EventFrom at broken = Unit {0}
+abbrev EventIn : ℕ → ℕ → Parsed → Type 0
+EventIn a z (event e n) = (a ≤ n) × (n ≤ z)
+EventIn a z broken = Unit {0}
 
 -- either arm of a test
-number-either : (at : ℕ) (b : Bool) (x y : Found) → NumberFrom at x → NumberFrom at y → NumberFrom at (cond b x y)
-number-either at true x y p q = p
-number-either at false x y p q = q
+number-either : (a z : ℕ) (b : Bool) (x y : Found) → NumberIn a z x → NumberIn a z y → NumberIn a z (cond b x y)
+number-either a z true x y p q = p
+number-either a z false x y p q = q
 
-stretch-either : (at : ℕ) (b : Bool) (x y : Stretch) → StretchFrom at x → StretchFrom at y → StretchFrom at (cond b x y)
-stretch-either at true x y p q = p
-stretch-either at false x y p q = q
+stretch-either : (a z : ℕ) (b : Bool) (x y : Stretch) → StretchIn a z x → StretchIn a z y → StretchIn a z (cond b x y)
+stretch-either a z true x y p q = p
+stretch-either a z false x y p q = q
 
-event-either : (at : ℕ) (b : Bool) (x y : Parsed) → EventFrom at x → EventFrom at y → EventFrom at (cond b x y)
-event-either at true x y p q = p
-event-either at false x y p q = q
+event-either : (a z : ℕ) (b : Bool) (x y : Parsed) → EventIn a z x → EventIn a z y → EventIn a z (cond b x y)
+event-either a z true x y p q = p
+event-either a z false x y p q = q
 
-event-later : (a b : ℕ) (p : Parsed) → a ≤ b → EventFrom b p → EventFrom a p
-event-later a b (event e n) h k = omega arith
-event-later a b broken h k = tt
+event-later : (a b z : ℕ) (p : Parsed) → a ≤ b → EventIn b z p → EventIn a z p
+event-later a b z (event e n) h k = (omega (arith, h, k .0), k .1)
+event-later a b z broken h k = tt
 
 -- a number takes at least one byte
 
-prefix-from : (at b : ℕ) (f : Found) → NumberFrom at f → NumberFrom at (prefixed b f)
-prefix-from at b (found v n) h =
-    number-either at (eqb v 0) none _ tt (number-either at (ltb v 144115188075855872) (found (b % 128 + 128 * v) n) none h tt)
-prefix-from at b none h = tt
+prefix-from : (a z b : ℕ) (f : Found) → NumberIn a z f → NumberIn a z (prefixed b f)
+prefix-from a z b (found v n) h =
+    number-either a z (eqb v 0) none _ tt (number-either a z (ltb v 144115188075855872) (found (b % 128 + 128 * v) n) none h tt)
+prefix-from a z b none h = tt
 
-number-later : (a b : ℕ) (f : Found) → a ≤ b → NumberFrom b f → NumberFrom a f
-number-later a b (found v n) h k = omega arith
-number-later a b none h k = tt
+number-later : (a b y z : ℕ) (f : Found) → a ≤ b → y ≤ z → NumberIn b y f → NumberIn a z f
+number-later a b y z (found v n) h l k = (omega (arith, h, k .0), omega (arith, l, k .1))
+number-later a b y z none h l k = tt
 
-number-past : (at : ℕ) (bytes : List ℕ) → NumberFrom (at + 1) (numberFrom at bytes)
+number-past : (at : ℕ) (bytes : List ℕ) → NumberIn (at + 1) (at + length bytes) (numberFrom at bytes)
 unfolding numberFrom
 number-past at [] = tt
 number-past at (b ∷ bytes) =
-    number-either (at + 1) (ltb b 128) (found b (at + 1)) _ (omega arith)
-    (prefix-from (at + 1) b (numberFrom (at + 1) bytes) (number-later (at + 1) (at + 1 + 1) (numberFrom (at + 1) bytes) (omega arith) (number-past (at + 1) bytes)))
+    number-either (at + 1) (at + suc (length bytes)) (ltb b 128) (found b (at + 1)) _ (omega arith, omega arith)
+    (prefix-from (at + 1) (at + suc (length bytes)) b (numberFrom (at + 1) bytes)
+    (number-later (at + 1) (at + 1 + 1) (at + 1 + length bytes) (at + suc (length bytes)) (numberFrom (at + 1) bytes) (omega arith) (omega arith)
+    (number-past (at + 1) bytes)))
 
-number-at : (s : List ℕ) (at : ℕ) → NumberFrom at (numberAt s at)
-number-at s at = number-later at (at + 1) (numberAt s at) (omega arith) (number-past at (drop at s))
+pub number-at : (s : List ℕ) (at : ℕ) → NumberIn (at + 1) (length s) (numberAt s at)
+unfolding numberFrom
+number-at s at = go (ltb (length s) at) refl
+  where
+    go : (t : Bool) → ltb (length s) at ≡ t → NumberIn (at + 1) (length s) (numberAt s at)
+    go true p = let h = ltb-true (length s) at p in let l : length s ≤ at = omega (arith, h) in rw (drop-of-length-le s l) tt
+    go false p =
+        let h = ltb-false (length s) at p in
+        number-later (at + 1) (at + 1) (at + length (drop at s)) (length s) (numberAt s at) (omega arith) (omega (arith, h, length-drop at s)) (number-past at (drop at s))
 
-column-at : (s : List ℕ) (at mask bit : ℕ) → NumberFrom at (columnAt s at mask bit)
-column-at s at mask bit = number-either at (named bit mask) (numberAt s at) (found 0 at) (number-at s at) (omega arith)
+number-here : (s : List ℕ) (at : ℕ) → NumberIn at (length s) (numberAt s at)
+number-here s at = number-later at (at + 1) (length s) (length s) (numberAt s at) (omega arith) (omega arith) (number-at s at)
+
+column-at : (s : List ℕ) (at mask bit : ℕ) → at ≤ length s → NumberIn at (length s) (columnAt s at mask bit)
+column-at s at mask bit h = number-either at (length s) (named bit mask) (numberAt s at) (found 0 at) (number-here s at) (omega arith, h)
 
 -- fields one after the other
 
-on-field : (at : ℕ) (f : Found) (k : ℕ → ℕ → Parsed) → NumberFrom at f → ((v n : ℕ) → EventFrom n (k v n)) → EventFrom at (field f k)
-on-field at (found v n) k h c = event-later at n (k v n) h (c v n)
-on-field at none k h c = tt
+on-field : (a z : ℕ) (f : Found) (k : ℕ → ℕ → Parsed) → NumberIn a z f → ((v n : ℕ) → n ≤ z → EventIn n z (k v n)) → EventIn a z (field f k)
+on-field a z (found v n) k h c = event-later a n z (k v n) (h .0) (c v n (h .1))
+on-field a z none k h c = tt
 
-stretch-at : (s : List ℕ) (at : ℕ) (f : Found) → NumberFrom at f → StretchFrom at (stretchAt s f)
+stretch-at : (s : List ℕ) (at : ℕ) (f : Found) → NumberIn at (length s) f → StretchIn at (length s) (stretchAt s f)
 stretch-at s at (found size n) h =
-    stretch-either at (leb size 1024) _ cut
-    (stretch-either at (leb n (length s)) _ cut (stretch-either at (leb size (length s - n)) (stretch n size (n + size)) cut (omega arith) tt) tt) tt
+    stretch-either at (length s) (leb size 1024) _ cut (stretch-either at (length s) (leb n (length s)) _ cut (go (leb size (length s - n)) refl) tt) tt
+  where
+    go : (t : Bool) → leb size (length s - n) ≡ t → StretchIn at (length s) (cond t (stretch n size (n + size)) cut)
+    go true p = (omega (arith, h .0), omega (arith, h .1, leb-true size (length s - n) p))
+    go false p = tt
 stretch-at s at none h = tt
 
-expression-at : (s : List ℕ) (at mask : ℕ) → StretchFrom at (expressionAt s at mask)
-expression-at s at mask =
-    stretch-either at (named 32 mask) (stretchAt s (numberAt s at)) (stretch 0 0 at) (stretch-at s at (numberAt s at) (number-at s at)) (omega arith)
+expression-at : (s : List ℕ) (at mask : ℕ) → at ≤ length s → StretchIn at (length s) (expressionAt s at mask)
+expression-at s at mask h =
+    stretch-either at (length s) (named 32 mask) (stretchAt s (numberAt s at)) (stretch 0 0 at) (stretch-at s at (numberAt s at) (number-here s at)) (omega arith, h)
 
-on-tokens : (s : List ℕ) (at : ℕ) (f : Stretch) (k : List ℕ → ℕ → Parsed) → StretchFrom at f → ((l : List ℕ) (n : ℕ) → EventFrom n (k l n))
-    → EventFrom at (fieldTokens s f k)
-on-tokens s at (stretch start count n) k h c = event-later at n (k (tokensAt s start count) n) h (c (tokensAt s start count) n)
-on-tokens s at cut k h c = tt
+on-tokens : (s : List ℕ) (a z : ℕ) (f : Stretch) (k : List ℕ → ℕ → Parsed) → StretchIn a z f → ((l : List ℕ) (n : ℕ) → n ≤ z → EventIn n z (k l n))
+    → EventIn a z (fieldTokens s f k)
+on-tokens s a z (stretch start count n) k h c = event-later a n z (k (tokensAt s start count) n) (h .0) (c (tokensAt s start count) n (h .1))
+on-tokens s a z cut k h c = tt
 
--- the next field is a number, or a column
-on-number : (s : List ℕ) (at : ℕ) (k : ℕ → ℕ → Parsed) → ((v n : ℕ) → EventFrom n (k v n)) → EventFrom at (field (numberAt s at) k)
-on-number s at k c = on-field at (numberAt s at) k (number-at s at) c
+-- the first field is a number; so may the next be, or a column
+on-first : (s : List ℕ) (at : ℕ) (k : ℕ → ℕ → Parsed) → ((v n : ℕ) → n ≤ length s → EventIn n (length s) (k v n)) → EventIn (at + 1) (length s) (field (numberAt s at) k)
+on-first s at k c = on-field (at + 1) (length s) (numberAt s at) k (number-at s at) c
 
-on-column : (s : List ℕ) (at mask bit : ℕ) (k : ℕ → ℕ → Parsed) → ((v n : ℕ) → EventFrom n (k v n)) → EventFrom at (field (columnAt s at mask bit) k)
-on-column s at mask bit k c = on-field at (columnAt s at mask bit) k (column-at s at mask bit) c
+on-number : (s : List ℕ) (at : ℕ) (k : ℕ → ℕ → Parsed) → ((v n : ℕ) → n ≤ length s → EventIn n (length s) (k v n)) → EventIn at (length s) (field (numberAt s at) k)
+on-number s at k c = on-field at (length s) (numberAt s at) k (number-here s at) c
+
+on-column : (s : List ℕ) (at mask bit : ℕ) → at ≤ length s → (k : ℕ → ℕ → Parsed) → ((v n : ℕ) → n ≤ length s → EventIn n (length s) (k v n))
+    → EventIn at (length s) (field (columnAt s at mask bit) k)
+on-column s at mask bit h k c = on-field at (length s) (columnAt s at mask bit) k (column-at s at mask bit h) c
 
 -- ---- the seven kinds
 
-last : (n : ℕ) → n ≤ n
-last n = omega arith
+last : (n z : ℕ) → n ≤ z → (n ≤ n) × (n ≤ z)
+last n z h = (omega arith, h)
 
-from-reading : (s : List ℕ) (at : ℕ) → EventFrom at (readingAt s at)
+from-reading : (s : List ℕ) (at : ℕ) → EventIn (at + 1) (length s) (readingAt s at)
 unfolding readingAt
-from-reading s at = on-number s at _ (λ v n. on-number s n _ (λ w m. last m))
+from-reading s at = on-first s at _ (λ v n h. on-number s n _ (λ w m k. last m (length s) k))
 
-from-elapse : (s : List ℕ) (at : ℕ) → EventFrom at (elapseAt s at)
+from-elapse : (s : List ℕ) (at : ℕ) → EventIn (at + 1) (length s) (elapseAt s at)
 unfolding elapseAt
-from-elapse s at = on-number s at _ (λ v n. last n)
+from-elapse s at = on-first s at _ (λ v n h. last n (length s) h)
 
-from-reset : (s : List ℕ) (at : ℕ) → EventFrom at (resetAt s at)
+from-reset : (s : List ℕ) (at : ℕ) → EventIn (at + 1) (length s) (resetAt s at)
 unfolding resetAt
-from-reset s at = on-number s at _ (λ v n. last n)
+from-reset s at = on-first s at _ (λ v n h. last n (length s) h)
 
-from-three : (s : List ℕ) (at : ℕ) → EventFrom at (geometryAt s at)
+from-three : (s : List ℕ) (at : ℕ) → EventIn (at + 1) (length s) (geometryAt s at)
 unfolding geometryAt
-from-three s at = on-number s at _ (λ v n. on-number s n _ (λ w m. on-number s m _ (λ x l. last l)))
+from-three s at = on-first s at _ (λ v n h. on-number s n _ (λ w m k. on-number s m _ (λ x l j. last l (length s) j)))
 
-from-transfer : (s : List ℕ) (at : ℕ) → EventFrom at (transferAt s at)
+from-transfer : (s : List ℕ) (at : ℕ) → EventIn (at + 1) (length s) (transferAt s at)
 unfolding transferAt
-from-transfer s at = on-number s at _ (λ v n. on-number s n _ (λ w m. on-number s m _ (λ x l. last l)))
+from-transfer s at = on-first s at _ (λ v n h. on-number s n _ (λ w m k. on-number s m _ (λ x l j. last l (length s) j)))
 
-from-sensor-set : (s : List ℕ) (at : ℕ) → EventFrom at (sensorSetAt s at)
+from-sensor-set : (s : List ℕ) (at : ℕ) → EventIn (at + 1) (length s) (sensorSetAt s at)
 unfolding sensorSetAt
 from-sensor-set s at =
-    on-number s at _ (λ v a. on-number s a _ (λ m b. event-either b (leb m 127) _ broken
-    (on-column s b m 1 _ (λ _ c. on-column s c m 2 _ (λ _ d. on-column s d m 4 _ (λ _ e. on-column s e m 8 _ (λ _ f.
-    on-column s f m 16 _ (λ _ g. on-column s g m 32 _ (λ _ h. on-column s h m 64 _ (λ _ i. last i))))))))
+    on-first s at _ (λ v a ha. on-number s a _ (λ m b hb. event-either b (length s) (leb m 127) _ broken
+    (on-column s b m 1 hb _ (λ _ c hc. on-column s c m 2 hc _ (λ _ d hd. on-column s d m 4 hd _ (λ _ e he. on-column s e m 8 he _ (λ _ f hf.
+    on-column s f m 16 hf _ (λ _ g hg. on-column s g m 32 hg _ (λ _ h hh. on-column s h m 64 hh _ (λ _ i hi. last i (length s) hi))))))))
     tt))
 
-from-band-set : (s : List ℕ) (at : ℕ) → EventFrom at (bandSetAt s at)
+from-band-set : (s : List ℕ) (at : ℕ) → EventIn (at + 1) (length s) (bandSetAt s at)
 unfolding bandSetAt
 from-band-set s at =
-    on-number s at _ (λ v a. on-number s a _ (λ m b. event-either b (leb m 63) _ broken
-    (on-column s b m 1 _ (λ _ c. on-column s c m 2 _ (λ _ d. on-column s d m 4 _ (λ _ e. on-column s e m 8 _ (λ _ f.
-    on-column s f m 16 _ (λ _ g. on-tokens s g (expressionAt s g m) _ (expression-at s g m) (λ _ h. last h)))))))
+    on-first s at _ (λ v a ha. on-number s a _ (λ m b hb. event-either b (length s) (leb m 63) _ broken
+    (on-column s b m 1 hb _ (λ _ c hc. on-column s c m 2 hc _ (λ _ d hd. on-column s d m 4 hd _ (λ _ e he. on-column s e m 8 he _ (λ _ f hf.
+    on-column s f m 16 hf _ (λ _ g hg. on-tokens s g (length s) (expressionAt s g m) _ (expression-at s g m hg) (λ _ h hh. last h (length s) hh)))))))
     tt))
 
-of-kind : (kind : ℕ) (s : List ℕ) (at : ℕ) → EventFrom at (ofKind kind s at)
+of-kind : (kind : ℕ) (s : List ℕ) (at : ℕ) → EventIn (at + 1) (length s) (ofKind kind s at)
 of-kind kind s at =
-    event-either at (eqb kind 1) (readingAt s at) _ (from-reading s at)
-    (event-either at (eqb kind 2) (elapseAt s at) _ (from-elapse s at)
-    (event-either at (eqb kind 3) (resetAt s at) _ (from-reset s at)
-    (event-either at (eqb kind 4) (sensorSetAt s at) _ (from-sensor-set s at)
-    (event-either at (eqb kind 5) (bandSetAt s at) _ (from-band-set s at)
-    (event-either at (eqb kind 6) (geometryAt s at) _ (from-three s at)
-    (event-either at (eqb kind 7) (transferAt s at) broken (from-transfer s at) tt))))))
+    event-either (at + 1) (length s) (eqb kind 1) (readingAt s at) _ (from-reading s at)
+    (event-either (at + 1) (length s) (eqb kind 2) (elapseAt s at) _ (from-elapse s at)
+    (event-either (at + 1) (length s) (eqb kind 3) (resetAt s at) _ (from-reset s at)
+    (event-either (at + 1) (length s) (eqb kind 4) (sensorSetAt s at) _ (from-sensor-set s at)
+    (event-either (at + 1) (length s) (eqb kind 5) (bandSetAt s at) _ (from-band-set s at)
+    (event-either (at + 1) (length s) (eqb kind 6) (geometryAt s at) _ (from-three s at)
+    (event-either (at + 1) (length s) (eqb kind 7) (transferAt s at) broken (from-transfer s at) tt))))))
 
-event-from : (s : List ℕ) (at : ℕ) → EventFrom (at + 1) (eventAt s at)
+-- the kind and a field: two bytes at least, and within the script
+event-from : (s : List ℕ) (at : ℕ) → EventIn (at + 2) (length s) (eventAt s at)
 unfolding eventAt
-event-from s at = on-field (at + 1) (numberAt s at) _ (number-past at (drop at s)) (λ kind n. of-kind kind s n)
+event-from s at = go (numberAt s at) (number-at s at)
+  where
+    go : (f : Found) → NumberIn (at + 1) (length s) f → EventIn (at + 2) (length s) (field f (λ kind at. ofKind kind s at))
+    go (found kind n) h = event-later (at + 2) (n + 1) (length s) (ofKind kind s n) (omega (arith, h .0)) (of-kind kind s n)
+    go none h = tt
+
+pub event-within : (s : List ℕ) (at : ℕ) (e : Event) (n : ℕ) → eventAt s at ≡ event e n → (at + 2 ≤ n) × (n ≤ length s)
+event-within s at e n q = subst (EventIn (at + 2) (length s)) q (event-from s at)
 
 pub event-past : (s : List ℕ) (at : ℕ) (e : Event) (n : ℕ) → eventAt s at ≡ event e n → at < n
-event-past s at e n q = let h : at + 1 ≤ n = subst (EventFrom (at + 1)) q (event-from s at) in omega arith
+event-past s at e n q = omega (arith, event-within s at e n q .0)

@@ -1,8 +1,5 @@
 // Runs the scripts of standard input, each after its length in four bytes, low first, and prints for each a line with its number and then its
 // listing as document 01 has it.
-ghost use Prim.Native.Nat.{_≤_};
-ghost use lib.ListN.{length};
-use answer::Answer;
 use band::Row;
 use drive::Drive;
 use run::Ran;
