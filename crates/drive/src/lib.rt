@@ -1,5 +1,8 @@
 // The drive (document 01, 'The drive and its refusals'): its state by value, the fresh one, and settling.
+ghost use mathlib.Core.Bool.{not};
 ghost use mathlib.Core.Path.{_≡_};
+ghost use Rattle.base.specs.Rows.{isRow};
+ghost use Rattle.drive.specs.Events.{sideOf};
 ghost use Rattle.drive.specs.State.{
   withRows,
   withSpans,
@@ -13,6 +16,7 @@ ghost use Rattle.drive.specs.State.{
 use answer::Answer;
 use band::BandColumns;
 use band::Row;
+use band::Side;
 use geometry::Span;
 use sensor::Sensor;
 use sensor::SensorColumns;
@@ -161,4 +165,25 @@ impl Drive {
         let settled = bands::settle_all(rows, conditions);
         self.with_rows(settled)
     }
+}
+
+// Whether there is no such row, of so many that the header counts.
+pub fn no_row(count: usize, i: u64) -> bool
+    ensures { λ r. ⌜ r ≡ not (isRow count i) ⌝ }
+{
+    if 16 <= i {
+        return true;
+    }
+    let at = i as usize;
+    count <= at
+}
+
+// The side that a direction reads or writes.
+pub fn side(direction: u64) -> Side
+    ensures { λ r. ⌜ r ≡ sideOf direction ⌝ }
+{
+    if direction == 0 {
+        return Side::Read;
+    }
+    Side::Write
 }

@@ -2,65 +2,44 @@
 use mathlib.Core.Path.{_≡_, refl, sym, ap, ap₂, _∙_, subst⁻¹}
 use Prim.Native.Nat.{ℕ, _<_, _≤_}
 use native.Mathlib.Omega.{arith}
-use mathlib.Core.Bool.{Bool, true, false, not, cond, _||_, true≢false}
-use mathlib.Core.List.{List, [], map}
-use mathlib.Core.Logic.{inl, ⊎-elim}
+use mathlib.Core.Bool.{Bool, true, false, not, cond}
+use mathlib.Core.List.{List, map}
 use lib.Dec.{eqb, ltb}
 use lib.ListN.{length, getD, set}
-use borrow.Author.Tests.{lt-ltb, le-ltb, eq-eqb, ne-eqb, eqb-true, eqb-false, not-false}
-use Rattle.base.specs.Columns.{named}
+use borrow.Author.Tests.{lt-ltb, le-ltb, eqb-true, not-false}
 use Rattle.base.specs.Rows.{isRow, modify}
 use Rattle.base.proofs.Cases.{cond-true, cond-false}
-use Rattle.base.proofs.Rows.{row-is, not-counted, no-room, is-row, modify-set, getD-any}
+use Rattle.base.proofs.Rows.{row-is, modify-set, getD-any}
 use Rattle.answer.specs.declared.Answer.{Answer}
-use Rattle.answer.specs.declared.Answer.the-variants.{Done, NoRow, OutOfRange, Held}
+use Rattle.answer.specs.declared.Answer.the-variants.{Done, NoRow, OutOfRange}
 use Rattle.answer.specs.Numbers.{numberOf}
-use Rattle.expression.specs.declared.Expression.{Expression}
-use Rattle.expression.specs.Elements.{expressionOf}
 use Rattle.sensor.specs.declared.single.Sensor.{Sensor}
 use Rattle.sensor.specs.declared.single.SensorAnswer.{SensorAnswer}
 use Rattle.sensor.specs.declared.columns.SensorColumns.{SensorColumns}
 use Rattle.sensor.specs.Single.{freshSensor, readingAnswer, readingOf, powerCycleOf, Answers}
 use Rattle.sensor.specs.Columns.{setAnswer, setOf}
 use Rattle.sensor.specs.Columns.{columnsFit as sensorColumnsFit}
-use Rattle.token_reader.specs.declared.Tokens.{Tokens}
-use Rattle.token_reader.specs.Read.{readTokens, expressionIn, answerIn, Reads}
-use Rattle.token_reader.proofs.Numbers.{DoneOrBroken, read-numbers}
 use Rattle.band.specs.declared.Side.{Side}
 use Rattle.band.specs.declared.Row.{Row}
 use Rattle.band.specs.declared.BandColumns.{BandColumns}
-use Rattle.band.specs.Rows.{freshRow, closedOn, valueIn, resetRow}
-use Rattle.band.specs.Sets.{formedRow, heldBy}
-use Rattle.band.specs.Sets.{columnsFit as bandColumnsFit}
+use Rattle.band.specs.Rows.{freshRow, closedOn, resetRow}
 use Rattle.geometry.specs.declared.Span.{Span}
 use Rattle.geometry.specs.declared.Placed.{Placed}
 use Rattle.geometry.specs.Events.{placed, placeAnswer, placeOf, transferAnswer, Places}
 use Rattle.drive.specs.declared.Drive.{Drive}
 use Rattle.drive.specs.declared.Kind.{Kind}
 use Rattle.drive.specs.declared.Reply.{Reply}
-use Rattle.drive.specs.State.{withRows, withSpans, withSensors, conditionsOf, rowAt, settleOf}
+use Rattle.drive.specs.State.{withRows, withSpans, withSensors, conditionsOf, settleOf}
 use Rattle.drive.specs.Events.{reading, elapse, reset, sensorSet, bandSet, geometry, transfer}
-use Rattle.drive.specs.Events.{answerOf, actOf, sideOf, tokensAnswer, formedFrom, Replies, eventOf}
+use Rattle.drive.specs.Events.{answerOf, actOf, sideOf, formedFrom, Replies, eventOf}
 use Rattle.elapse.specs.declared.Elapsed.{Elapsed}
 use Rattle.elapse.specs.Jumps.{Elapses}
-use Rattle.events.specs.Steps.{Takes, refused, granting, StoresSensor, StoresRow, TokensFor, newRow, isHeld}
+use Rattle.row_set.specs.declared.RowAnswer.{RowAnswer}
+use Rattle.row_set.specs.Forming.{rowAnswer, SetsRow}
+use Rattle.events.specs.Steps.{Takes, refused, granting, Stores}
 use Rattle.events.proofs.Answering.{refuses, grants, done, by-answer}
 
 -- ---- rows
-
-pub past-all : (count i : ℕ) → 16 ≤ i → true ≡ not (isRow count i)
-past-all count i h = sym (ap not (no-room count i h))
-
-not-leb : (count i : ℕ) (b : Bool) → ltb i count ≡ b → i < 16 → lib.Dec.leb count i ≡ not (isRow count i)
-not-leb count i true e h =
-    let k : i < count = borrow.Author.Tests.ltb-true i count e in
-    borrow.Author.Tests.lt-leb count i k ∙ sym (ap not (is-row count i k h))
-not-leb count i false e h =
-    let k : count ≤ i = borrow.Author.Tests.ltb-false i count e in
-    borrow.Author.Tests.le-leb count i k ∙ sym (ap not (not-counted count i k))
-
-pub counted : (count i : ℕ) → i < 16 → lib.Dec.leb count i ≡ not (isRow count i)
-counted count i h = not-leb count i (ltb i count) refl h
 
 row-there : (count i : ℕ) (t : Bool) → t ≡ not (isRow count i) → t ≡ false → isRow count i ≡ true
 row-there count i t p e = not-false (isRow count i) (sym p ∙ e)
@@ -69,22 +48,20 @@ row-there count i t p e = not-false (isRow count i) (sym p ∙ e)
 pub row-place : (count i : ℕ) (t : Bool) → t ≡ not (isRow count i) → t ≡ false → i < 16
 row-place count i t p e = row-is count i (row-there count i t p e) .1
 
--- ---- a sensor's events
+-- ---- a sensor's and a row's events
 
-pub sensor-stored : (d : Drive) (at : ℕ) (r : SensorAnswer) (q : Reply) (t : Bool) → t ≡ eqb (numberOf (r .answer)) 0 → t ≡ true
-    → q ≡ granting (withSensors (set (d .sensors) at (r .sensor)) d) → StoresSensor d at r q
-sensor-stored d at r q t p e w = record {
-  answer = ap (λ (x : Reply). numberOf (x .answer)) w ∙ sym (eqb-true (numberOf (r .answer)) 0 (sym p ∙ e));
-  stops = ap (λ (x : Reply). x .stops) w;
-  drive = ap (λ (x : Reply). x .drive) w ∙ cond-true (eqb (numberOf (r .answer)) 0) _ _ _ (sym p ∙ e) refl;
+pub stored-done : (d x : Drive) (a : Answer) (q : Reply) (t : Bool) → t ≡ eqb (numberOf a) 0 → t ≡ true → q ≡ granting x → Stores a x d q
+stored-done d x a q t p e w = record {
+  answer = ap (λ (r : Reply). numberOf (r .answer)) w ∙ sym (eqb-true (numberOf a) 0 (sym p ∙ e));
+  stops = ap (λ (r : Reply). r .stops) w;
+  drive = ap (λ (r : Reply). r .drive) w ∙ cond-true (eqb (numberOf a) 0) _ _ _ (sym p ∙ e) refl;
 }
 
-pub sensor-refused : (d : Drive) (at : ℕ) (r : SensorAnswer) (q : Reply) (t : Bool) → t ≡ eqb (numberOf (r .answer)) 0 → t ≡ false
-    → q ≡ refused (r .answer) d → StoresSensor d at r q
-sensor-refused d at r q t p e w = record {
-  answer = ap (λ (x : Reply). numberOf (x .answer)) w;
-  stops = ap (λ (x : Reply). x .stops) w;
-  drive = ap (λ (x : Reply). x .drive) w ∙ cond-false (eqb (numberOf (r .answer)) 0) _ _ _ (sym p ∙ e) refl;
+pub stored-refused : (d x : Drive) (a : Answer) (q : Reply) (t : Bool) → t ≡ eqb (numberOf a) 0 → t ≡ false → q ≡ refused a d → Stores a x d q
+stored-refused d x a q t p e w = record {
+  answer = ap (λ (r : Reply). numberOf (r .answer)) w;
+  stops = ap (λ (r : Reply). r .stops) w;
+  drive = ap (λ (r : Reply). r .drive) w ∙ cond-false (eqb (numberOf a) 0) _ _ _ (sym p ∙ e) refl;
 }
 
 -- a test that is not met, in front of an answer
@@ -101,14 +78,14 @@ module _ (d : Drive) (s : ℕ) (one : Sensor) (r : SensorAnswer) (q : Reply) (t 
       ap (λ (x : List Sensor). withSensors x d)
       (modify-set f (d .sensors) s freshSensor (r .sensor) (h ∙ ap f (k .element)) (omega (arith, k .long, row-place (d .«sensor_count») s t p e)))
 
-  pub reading-replies : (v : ℕ) → Answers (readingAnswer v) (readingOf v one) r → StoresSensor d s r q → Replies d (reading s v) q
+  pub reading-replies : (v : ℕ) → Answers (readingAnswer v) (readingOf v one) r → Stores (r .answer) (withSensors (set (d .sensors) s (r .sensor)) d) d q → Replies d (reading s v) q
   unfolding answerOf actOf
   reading-replies v a w =
       by-answer d (reading s v) (numberOf (r .answer)) (withSensors (set (d .sensors) s (r .sensor)) d) q (w .answer)
       (behind (isRow (d .«sensor_count») s) (numberOf (r .answer)) (readingAnswer v) 1 (row-there (d .«sensor_count») s t p e) (a .answer))
       (w .stops) refl (w .drive) (stored (readingOf v) (a .sensor))
 
-  pub set-replies : (c : SensorColumns) → Answers (setAnswer c) (setOf c one) r → StoresSensor d s r q → Replies d (sensorSet s c) q
+  pub set-replies : (c : SensorColumns) → Answers (setAnswer c) (setOf c one) r → Stores (r .answer) (withSensors (set (d .sensors) s (r .sensor)) d) d q → Replies d (sensorSet s c) q
   unfolding answerOf actOf
   set-replies c a w =
       by-answer d (sensorSet s c) (numberOf (r .answer)) (withSensors (set (d .sensors) s (r .sensor)) d) q (w .answer)
@@ -185,152 +162,31 @@ module _ (d : Drive) (w start n : ℕ) where
 
 -- ---- band Set
 
-pub columns-unfit : (c : BandColumns) (bytes : List ℕ) (t : Bool) → t ≡ bandColumnsFit c → t ≡ false → true ≡ (not (bandColumnsFit c) || ltb 1024 (length bytes))
-columns-unfit c bytes t p e = sym (ap (λ (x : Bool). not x || ltb 1024 (length bytes)) (sym p ∙ e))
+module _ (d : Drive) (b : ℕ) (c : BandColumns) (bytes : List ℕ) (row : Row) (cs : List Bool) (r : RowAnswer) (q : Reply) (t : Bool) (p : t ≡ not (isRow (d .«band_count») b)) (e : t ≡ false) (k : Takes (d .rows) b freshRow row) (ec : cs ≡ conditionsOf d) (s : SetsRow cs c bytes row r) where
+  -- the answer, once the row is there
+  pub row-answer : numberOf (r .answer) ≡ answerOf d (bandSet b c bytes)
+  unfolding answerOf rowAnswer
+  row-answer =
+      behind (isRow (d .«band_count») b) (numberOf (r .answer)) _ 1 (row-there (d .«band_count») b t p e)
+      (s .answer ∙ ap₂ (λ (x : List Bool) (y : Row). rowAnswer x c bytes y) ec (k .element))
 
-pub columns-fit : (c : BandColumns) (bytes : List ℕ) (t : Bool) → t ≡ bandColumnsFit c → t ≡ true
-    → ltb 1024 (length bytes) ≡ (not (bandColumnsFit c) || ltb 1024 (length bytes))
-columns-fit c bytes t p e = sym (ap (λ (x : Bool). not x || ltb 1024 (length bytes)) (sym p ∙ e))
+  pub band-replies : Stores (r .answer) (withRows (set (d .rows) b (r .row)) d) d q → Replies d (bandSet b c bytes) q
+  unfolding actOf
+  band-replies w = by-answer d (bandSet b c bytes) (numberOf (r .answer)) y q (w .answer) row-answer (w .stops) refl (w .drive ∙ go (eqb (numberOf (r .answer)) 0) refl) refl
+    where
+      y : Drive
+      y = withRows (modify (formedFrom c bytes) b (d .rows)) d
 
-pub tokens-read : (c : BandColumns) (bytes : List ℕ) (r : Tokens) (t : Bool) → t ≡ named 32 (c .mask) → t ≡ true → Reads bytes r → TokensFor c bytes r
-tokens-read c bytes r t p e h = record {
-  answer = cond-true (named 32 (c .mask)) _ _ _ (sym p ∙ e) (h .answer);
-  expression = cond-true (named 32 (c .mask)) _ _ _ (sym p ∙ e) (h .expression);
-}
-
-pub tokens-unread : (c : BandColumns) (bytes : List ℕ) (x : Expression) (t : Bool) → t ≡ named 32 (c .mask) → t ≡ false → x ≡ expressionOf []
-    → TokensFor c bytes (record { answer = Done; expression = x })
-tokens-unread c bytes x t p e h = record {
-  answer = cond-false (named 32 (c .mask)) _ _ _ (sym p ∙ e) refl;
-  expression = cond-false (named 32 (c .mask)) _ _ _ (sym p ∙ e) h;
-}
-
-module _ (d : Drive) (at : ℕ) (c : BandColumns) (x : Expression) (row new : Row) (cs : List Bool) (v t : Bool) (q : Reply) (k : Takes (d .rows) at freshRow row) (en : new ≡ formedRow c x row) (ec : cs ≡ conditionsOf d) (ev : v ≡ valueIn cs new) (et : t ≡ heldBy c new v) where
-  formed : new ≡ newRow d at c x
-  formed = en ∙ ap (formedRow c x) (k .element)
-
-  tested : t ≡ isHeld d at c x
-  tested =
-      et
-      ∙ ap₂ (λ (r : Row) (b : Bool). heldBy c r b) formed (ev ∙ ap₂ (λ (b : List Bool) (r : Row). valueIn b r) ec formed)
-
-  pub row-held : t ≡ true → q ≡ refused Held d → StoresRow d at c x q
-  row-held e w = record {
-    answer = ap (λ (r : Reply). numberOf (r .answer)) w ∙ cond-true (isHeld d at c x) _ _ _ (sym tested ∙ e) refl;
-    stops = ap (λ (r : Reply). r .stops) w;
-    drive = ap (λ (r : Reply). r .drive) w ∙ cond-true (isHeld d at c x) _ _ _ (sym tested ∙ e) refl;
-    long = k .long;
-  }
-
-  pub row-stored : t ≡ false → q ≡ granting (withRows (set (d .rows) at new) d) → StoresRow d at c x q
-  row-stored e w = record {
-    answer = ap (λ (r : Reply). numberOf (r .answer)) w ∙ cond-false (isHeld d at c x) _ _ _ (sym tested ∙ e) refl;
-    stops = ap (λ (r : Reply). r .stops) w;
-    drive = ap (λ (r : Reply). r .drive) w
-        ∙ cond-false (isHeld d at c x) _ _ _ (sym tested ∙ e) (ap (λ (r : Row). settleOf (withRows (set (d .rows) at r) d)) formed);
-    long = k .long;
-  }
-
--- the expression that is formed, where the Set names one and where it does not
-formed-from : (c : BandColumns) (bytes : List ℕ) (x : Expression) (row : Row)
-    → x ≡ cond (named 32 (c .mask)) (expressionIn (readTokens bytes)) (expressionOf []) → formedRow c x row ≡ formedFrom c bytes row
-unfolding formedRow
-formed-from c bytes x row e =
-    let y : Expression = expressionIn (readTokens bytes) in
-    ap (λ (k : Expression). formedRow c k row) e
-    ∙ ap (λ (k : Expression). record {
-      «read_lock_enabled» = formedRow c y row .«read_lock_enabled»;
-      «write_lock_enabled» = formedRow c y row .«write_lock_enabled»;
-      «read_locked» = formedRow c y row .«read_locked»;
-      «write_locked» = formedRow c y row .«write_locked»;
-      «lock_on_reset» = formedRow c y row .«lock_on_reset»;
-      expression = k;
-    })
-    (twice (named 32 (c .mask)) y (expressionOf []) (row .expression))
-  where
-    twice : (b : Bool) (a o f : Expression) → cond b (cond b a o) f ≡ cond b a f
-    twice true a o f = refl
-    twice false a o f = refl
-
--- either arm of a test has one of three numbers
-known : (b : Bool) (n : ℕ) → DoneOrBroken n → DoneOrBroken (cond b n 0)
-known true n k = k
-known false n k = inl refl
-
-neither : (a b : Bool) → (a || b) ≡ false → (a ≡ false) × (b ≡ false)
-neither true b e = absurd (true≢false e)
-neither false b e = (refl, e)
-
-module _ (d : Drive) (b : ℕ) (c : BandColumns) (bytes : List ℕ) (t u : Bool) (p : t ≡ not (isRow (d .«band_count») b)) (e : t ≡ false) (pu : u ≡ (not (bandColumnsFit c) || ltb 1024 (length bytes))) where
-  pub band-unfit : (q : Reply) → u ≡ true → q ≡ refused OutOfRange d → Replies d (bandSet b c bytes) q
-  unfolding answerOf
-  band-unfit q eu w =
-      refuses d (bandSet b c bytes) OutOfRange q w
-      (behind (isRow (d .«band_count») b) 2 _ 1 (row-there (d .«band_count») b t p e)
-      (cond-true (not (bandColumnsFit c) || ltb 1024 (length bytes)) 2 _ _ (sym pu ∙ eu) refl))
-      refl
-
-  module _ (eu : u ≡ false) (r : Tokens) (h : TokensFor c bytes r) (g : Bool) (pg : g ≡ eqb (numberOf (r .answer)) 0) where
-    k : ℕ
-    k = tokensAnswer c bytes
-
-    isIt : Bool
-    isIt = heldBy c (formedFrom c bytes (rowAt d b)) (valueIn (conditionsOf d) (formedFrom c bytes (rowAt d b)))
-
-    -- the answer, once the row is there and the fields fit
-    left : cond (eqb k 3) 3 (cond (eqb k 4) 4 (cond isIt 8 0)) ≡ answerOf d (bandSet b c bytes)
-    unfolding answerOf k isIt
-    left =
-        behind (isRow (d .«band_count») b) _ _ 1 (row-there (d .«band_count») b t p e)
-        (cond-false (not (bandColumnsFit c) || ltb 1024 (length bytes)) 2 _ _ (sym pu ∙ eu) refl)
-
-    numbers : DoneOrBroken k
-    unfolding k
-    numbers =
-        known (named 32 (c .mask)) (answerIn (readTokens bytes))
-        (read-numbers bytes (borrow.Author.Tests.ltb-false 1024 (length bytes) (neither (not (bandColumnsFit c)) (ltb 1024 (length bytes)) (sym pu ∙ eu) .1)))
-
-    is-k : numberOf (r .answer) ≡ k
-    unfolding k
-    is-k = h .answer
-
-    broken : DoneOrBroken k → (k ≡ 0 → ⊥) → k ≡ cond (eqb k 3) 3 (cond (eqb k 4) 4 (cond isIt 8 0))
-    broken n z =
-        ⊎-elim (λ q. absurd (z q))
-        (λ s. ⊎-elim
-        (λ q. q ∙ cond-true (eqb k 3) 3 _ _ (eq-eqb k 3 q) refl)
-        (λ q. q ∙ cond-false (eqb k 3) 3 _ _ (ne-eqb k 3 (omega arith)) (cond-true (eqb k 4) 4 _ _ (eq-eqb k 4 q) refl))
-        s)
-        n
-
-    pub band-unread : (q : Reply) → g ≡ false → q ≡ refused (r .answer) d → Replies d (bandSet b c bytes) q
-    band-unread q eg w =
-        let z : eqb (numberOf (r .answer)) 0 ≡ false = sym pg ∙ eg in
-        refuses d (bandSet b c bytes) (r .answer) q w
-        (is-k ∙ broken numbers (λ s. eqb-false (numberOf (r .answer)) 0 z (is-k ∙ s)) ∙ left) z
-
-    whole : k ≡ 0 → cond isIt 8 0 ≡ answerOf d (bandSet b c bytes)
-    whole z =
-        cond-false (eqb k 3) 3 _ _ (ne-eqb k 3 (omega arith)) (cond-false (eqb k 4) 4 _ _ (ne-eqb k 4 (omega arith)) refl) ∙ left
-
-    flip : (x : Bool) (y z : Drive) → cond x y z ≡ cond (eqb (cond x 8 0) 0) z y
-    flip true y z = refl
-    flip false y z = refl
-
-    pub band-replies : (q : Reply) → g ≡ true → StoresRow d b c (r .expression) q → Replies d (bandSet b c bytes) q
-    unfolding isIt actOf
-    band-replies q eg s =
-        let z : k ≡ 0 = sym is-k ∙ eqb-true (numberOf (r .answer)) 0 (sym pg ∙ eg) in
-        let f : newRow d b c (r .expression) ≡ formedFrom c bytes (rowAt d b) = formed-from c bytes (r .expression) (rowAt d b) (h .expression) in
-        let i : isHeld d b c (r .expression) ≡ isIt = ap (λ (x : Row). heldBy c x (valueIn (conditionsOf d) x)) f in
-        let y : Drive = withRows (set (d .rows) b (newRow d b c (r .expression))) d in
-        by-answer d (bandSet b c bytes) (cond (isHeld d b c (r .expression)) 8 0) y q (s .answer)
-        (ap (λ (x : Bool). cond x 8 0) i ∙ whole z)
-        (s .stops) refl
-        (s .drive ∙ flip (isHeld d b c (r .expression)) d (settleOf y))
-        (ap (λ (m : List Row). withRows m d)
-        (modify-set (formedFrom c bytes) (d .rows) b freshRow (newRow d b c (r .expression)) f
-        (omega (arith, s .long, row-place (d .«band_count») b t p e))))
+      go : (z : Bool) → eqb (numberOf (r .answer)) 0 ≡ z → cond z (settleOf (withRows (set (d .rows) b (r .row)) d)) d ≡ cond z (settleOf y) d
+      go false h = refl
+      go true h =
+          ap (λ (l : List Row). settleOf (withRows l d))
+          (modify-set (formedFrom c bytes) (d .rows) b freshRow (r .row)
+          (s .after ∙ cond-pick (eqb (rowAnswer cs c bytes row) 0) (ap (λ (n : ℕ). eqb n 0) (sym (s .answer)) ∙ h) ∙ ap (formedFrom c bytes) (k .element))
+          (omega (arith, k .long, row-place (d .«band_count») b t p e)))
+        where
+          cond-pick : (z : Bool) → z ≡ true → cond z (formedFrom c bytes row) row ≡ formedFrom c bytes row
+          cond-pick z f = ap (λ (x : Bool). cond x (formedFrom c bytes row) row) f
 
 -- a row that is not there
 pub no-sensor-reading : (d : Drive) (s v : ℕ) (t : Bool) (q : Reply) → t ≡ not (isRow (d .«sensor_count») s) → t ≡ true → q ≡ refused NoRow d

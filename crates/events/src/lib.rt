@@ -1,31 +1,28 @@
 // The seven events of a drive (document 01): each takes any numbers and any drive, and hands back the answer, the stops and the drive.
 ghost use mathlib.Core.Path.{_≡_};
-ghost use mathlib.Core.Bool.{cond, not, _||_};
+ghost use mathlib.Core.Bool.{cond};
 ghost use mathlib.Core.List.{map};
 ghost use Prim.Native.Nat.{_<_, _≤_};
-ghost use lib.Dec.{eqb, ltb};
-ghost use lib.ListN.{length};
+ghost use lib.Dec.{eqb};
+ghost use lib.ListN.{set};
 ghost use Rattle.answer.specs.Numbers.{numberOf};
-ghost use Rattle.base.specs.Rows.{isRow};
 ghost use Rattle.sensor.specs.Single.{freshSensor, powerCycleOf};
 ghost use Rattle.band.specs.Rows.{freshRow};
-ghost use Rattle.band.specs.Sets.{columnsFit};
-ghost use Rattle.drive.specs.Events.{Replies, sideOf, eventOf};
+ghost use Rattle.drive.specs.State.{withRows, withSensors};
+ghost use Rattle.drive.specs.Events.{Replies, eventOf};
 ghost use Rattle.drive.specs.Events.{Event as E};
 ghost use Rattle.elapse.specs.Jumps.{running};
-ghost use Rattle.events.specs.Steps.{Takes, refused, granting, StoresSensor, StoresRow, TokensFor};
+ghost use Rattle.events.specs.Steps.{Takes, refused, granting, Stores};
 use answer::Answer;
 use band::BandColumns;
 use band::Row;
-use band::Side;
 use drive::Drive;
 use drive::Kind;
 use drive::Reply;
-use expression::Expression;
+use row_set::RowAnswer;
 use sensor::Sensor;
 use sensor::SensorAnswer;
 use sensor::SensorColumns;
-use token_reader::Tokens;
 
 // The greatest elapse.
 pub const MOST_TICKS: u64 = 4_294_967_295;
@@ -35,17 +32,6 @@ fn granted(answer: Answer) -> bool
     ensures { λ r. ⌜ r ≡ eqb (numberOf answer) 0 ⌝ }
 {
     answer.number() == 0
-}
-
-// Whether there is no such row.
-fn no_row(count: usize, i: u64) -> bool
-    ensures { λ r. ⌜ r ≡ not (isRow count i) ⌝ }
-{
-    if 16 <= i {
-        return true;
-    }
-    let at = i as usize;
-    count <= at
 }
 
 // A refusal: the drive as it was.
@@ -89,7 +75,7 @@ fn row_at(all: [Row; 16], at: usize) -> Row
 // What a sensor's answer makes of the drive.
 fn store_sensor(drive: Drive, at: usize, r: SensorAnswer) -> Reply
     requires { ⌜ at < 16 ⌝ }
-    ensures { λ q. ⌜ StoresSensor drive at r q ⌝ }
+    ensures { λ q. ⌜ Stores (r .answer) (withSensors (set (drive .sensors) at (r .sensor)) drive) drive q ⌝ }
 {
     let answer = r.answer;
     if granted(answer) {
@@ -105,7 +91,7 @@ fn store_sensor(drive: Drive, at: usize, r: SensorAnswer) -> Reply
 pub fn reading(drive: Drive, sensor: u64, value: u64) -> Reply
     ensures { λ r. ⌜ Replies drive (E.reading sensor value) r ⌝ }
 {
-    if no_row(drive.sensor_count, sensor) {
+    if drive::no_row(drive.sensor_count, sensor) {
         return refuse(drive, Answer::NoRow);
     }
     let at = sensor as usize;
@@ -162,7 +148,7 @@ pub fn reset(drive: Drive, kind: u64) -> Reply
 pub fn set_sensor(drive: Drive, sensor: u64, columns: SensorColumns) -> Reply
     ensures { λ r. ⌜ Replies drive (E.sensorSet sensor columns) r ⌝ }
 {
-    if no_row(drive.sensor_count, sensor) {
+    if drive::no_row(drive.sensor_count, sensor) {
         return refuse(drive, Answer::NoRow);
     }
     let at = sensor as usize;
@@ -172,66 +158,34 @@ pub fn set_sensor(drive: Drive, sensor: u64, columns: SensorColumns) -> Reply
     store_sensor(drive, at, r)
 }
 
-// Whether a field of a band Set exceeds its range.
-fn unfit(columns: BandColumns, tokens: &[u8]) -> bool
-    ensures { λ r. ⌜ r ≡ (not (columnsFit columns) || ltb 1024 (length (now (tokens .entry)))) ⌝ }
-{
-    if columns.fit() {
-        return token_reader::MOST_BYTES < tokens.len();
-    }
-    true
-}
-
-// What the bytes of a band Set read to, where the Set names them.
-fn tokens_for(columns: BandColumns, tokens: &[u8]) -> Tokens
-    ensures { λ r. ⌜ TokensFor columns (now (tokens .entry)) r ⌝ }
-{
-    if columns.names_expression() {
-        return token_reader::read(tokens);
-    }
-    let expression = Expression::empty();
-    Tokens {
-        answer: Answer::Done,
-        expression,
-    }
-}
-
-// The row that a band Set forms, stored unless it is held.
-fn store_row(drive: Drive, at: usize, columns: BandColumns, expression: Expression) -> Reply
+// What a row's answer makes of the drive.
+fn store_row(drive: Drive, at: usize, r: RowAnswer) -> Reply
     requires { ⌜ at < 16 ⌝ }
-    ensures { λ q. ⌜ StoresRow drive at columns expression q ⌝ }
+    ensures { λ q. ⌜ Stores (r .answer) (withRows (set (drive .rows) at (r .row)) drive) drive q ⌝ }
 {
-    let conditions = drive.conditions();
-    let all = drive.rows;
-    let row = row_at(all, at);
-    let new = row.form(columns, expression);
-    let v = new.value(conditions);
-    if new.held(columns, v) {
-        return refuse(drive, Answer::Held);
+    let answer = r.answer;
+    if granted(answer) {
+        let row = r.row;
+        let mut next = drive;
+        next.rows[at] = row;
+        return grant(next);
     }
-    let mut next = drive;
-    next.rows[at] = new;
-    grant(next)
+    refuse(drive, answer)
 }
 
 // 5 band Set
 pub fn set_band(drive: Drive, band: u64, columns: BandColumns, tokens: &[u8]) -> Reply
     ensures { λ r. ⌜ Replies drive (E.bandSet band columns (now (tokens .entry))) r ⌝ }
 {
-    if no_row(drive.band_count, band) {
+    if drive::no_row(drive.band_count, band) {
         return refuse(drive, Answer::NoRow);
     }
-    if unfit(columns, tokens) {
-        return refuse(drive, Answer::OutOfRange);
-    }
-    let read = tokens_for(columns, tokens);
-    let answer = read.answer;
-    if granted(answer) {
-        let at = band as usize;
-        let expression = read.expression;
-        return store_row(drive, at, columns, expression);
-    }
-    refuse(drive, answer)
+    let at = band as usize;
+    let conditions = drive.conditions();
+    let all = drive.rows;
+    let one = row_at(all, at);
+    let r = row_set::set(one, conditions, columns, tokens);
+    store_row(drive, at, r)
 }
 
 // 6 geometry
@@ -248,16 +202,6 @@ pub fn set_geometry(drive: Drive, band: u64, start: u64, length: u64) -> Reply
     refuse(drive, answer)
 }
 
-// The side that a direction reads or writes.
-fn side(direction: u64) -> Side
-    ensures { λ r. ⌜ r ≡ sideOf direction ⌝ }
-{
-    if direction == 0 {
-        return Side::Read;
-    }
-    Side::Write
-}
-
 // 7 transfer
 pub fn transfer(drive: Drive, direction: u64, start: u64, count: u64) -> Reply
     ensures { λ r. ⌜ Replies drive (E.transfer direction start count) r ⌝ }
@@ -266,7 +210,7 @@ pub fn transfer(drive: Drive, direction: u64, start: u64, count: u64) -> Reply
         return refuse(drive, Answer::OutOfRange);
     }
     let rows = drive.rows;
-    let closed = bands::closed_sides(rows, side(direction));
+    let closed = bands::closed_sides(rows, drive::side(direction));
     let spans = drive.spans;
     let answer = geometry::transfer(
         drive.capacity,

@@ -1,4 +1,4 @@
-use Rattle.events.proofs.Arms.{sensor-stored, sensor-refused}
+use Rattle.events.proofs.Arms.{stored-done, stored-refused}
 use borrow.Author.Needs.{needs}
 use Rattle.events.proofs.store_sensor.Statement.{statement}
 use Rattle.events.proofs.store_sensor.Tie as tie
@@ -16,13 +16,13 @@ grant-requires : tie.Need-grant-requires
 grant-requires c κs = search needs
 
 returns : tie.Need-returns
-returns c = search sensor-stored
+returns c = search stored-done
 
 refuse-requires : tie.Need-refuse-requires
 refuse-requires c κs = search needs
 
 returns-2 : tie.Need-returns-2
-returns-2 c = search sensor-refused
+returns-2 c = search stored-refused
 
 pub store-sensor-spec : {M : Type 1} → statement M
 store-sensor-spec =

@@ -1,7 +1,7 @@
-use Rattle.events.proofs.Arms.{columns-unfit, columns-fit}
+use Rattle.row_set.proofs.Setting.{columns-unfit, columns-fit}
 use borrow.Author.Needs.{needs}
-use Rattle.events.proofs.unfit.Statement.{statement}
-use Rattle.events.proofs.unfit.Tie as tie
+use Rattle.row_set.proofs.unfit.Statement.{statement}
+use Rattle.row_set.proofs.unfit.Tie as tie
 
 fit-requires : tie.Need-fit-requires
 fit-requires c κs = search needs

@@ -1,7 +1,7 @@
-use Rattle.events.proofs.Arms.{tokens-read, tokens-unread}
+use Rattle.row_set.proofs.Setting.{tokens-read, tokens-unread}
 use borrow.Author.Needs.{needs}
-use Rattle.events.proofs.tokens_for.Statement.{statement}
-use Rattle.events.proofs.tokens_for.Tie as tie
+use Rattle.row_set.proofs.tokens_for.Statement.{statement}
+use Rattle.row_set.proofs.tokens_for.Tie as tie
 
 names-expression-requires : tie.Need-names-expression-requires
 names-expression-requires c κs = search needs

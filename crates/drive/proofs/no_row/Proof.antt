@@ -1,6 +1,6 @@
-use Rattle.events.proofs.Arms.{past-all, counted}
-use Rattle.events.proofs.no_row.Statement.{statement}
-use Rattle.events.proofs.no_row.Tie as tie
+use Rattle.drive.proofs.Rows.{past-all, counted}
+use Rattle.drive.proofs.no_row.Statement.{statement}
+use Rattle.drive.proofs.no_row.Tie as tie
 
 returns : tie.Need-returns
 returns c = search past-all

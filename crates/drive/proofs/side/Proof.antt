@@ -1,6 +1,6 @@
 use Rattle.base.proofs.Cases.{cases}
-use Rattle.events.proofs.side.Statement.{statement}
-use Rattle.events.proofs.side.Tie as tie
+use Rattle.drive.proofs.side.Statement.{statement}
+use Rattle.drive.proofs.side.Tie as tie
 
 returns : tie.Need-returns
 returns c = search cases

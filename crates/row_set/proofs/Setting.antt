@@ -1,0 +1,162 @@
+-- What the arms of a Set of one row come to, over the values that their calls hand back.
+use mathlib.Core.Path.{_≡_, refl, sym, ap, ap₂, _∙_}
+use Prim.Native.Nat.{ℕ}
+use native.Mathlib.Omega.{arith}
+use mathlib.Core.Bool.{Bool, true, false, not, cond, _||_, true≢false}
+use mathlib.Core.List.{List, []}
+use mathlib.Core.Logic.{_≢_, inl, ⊎-elim}
+use lib.Dec.{eqb, ltb}
+use lib.ListN.{length}
+use borrow.Author.Tests.{eq-eqb, ne-eqb, eqb-false}
+use Rattle.base.specs.Columns.{named}
+use Rattle.base.proofs.Cases.{cond-true, cond-false}
+use Rattle.answer.specs.declared.Answer.{Answer}
+use Rattle.answer.specs.declared.Answer.the-variants.{Done, OutOfRange, Held}
+use Rattle.answer.specs.Numbers.{numberOf}
+use Rattle.expression.specs.declared.Expression.{Expression}
+use Rattle.expression.specs.Elements.{expressionOf}
+use Rattle.token_reader.specs.declared.Tokens.{Tokens}
+use Rattle.token_reader.specs.Read.{readTokens, expressionIn, answerIn, Reads}
+use Rattle.token_reader.proofs.Numbers.{DoneOrBroken, read-numbers}
+use Rattle.band.specs.declared.Row.{Row}
+use Rattle.band.specs.declared.BandColumns.{BandColumns}
+use Rattle.band.specs.Rows.{valueIn}
+use Rattle.band.specs.Sets.{formedRow, heldBy}
+use Rattle.band.specs.Sets.{columnsFit as bandColumnsFit}
+use Rattle.drive.specs.Events.{tokensAnswer, formedFrom}
+use Rattle.row_set.specs.declared.RowAnswer.{RowAnswer}
+use Rattle.row_set.specs.Forming.{heldUnder, rowAnswer, SetsRow, TokensFor, Forms}
+
+pub columns-unfit : (c : BandColumns) (bytes : List ℕ) (t : Bool) → t ≡ bandColumnsFit c → t ≡ false → true ≡ (not (bandColumnsFit c) || ltb 1024 (length bytes))
+columns-unfit c bytes t p e = sym (ap (λ (x : Bool). not x || ltb 1024 (length bytes)) (sym p ∙ e))
+
+pub columns-fit : (c : BandColumns) (bytes : List ℕ) (t : Bool) → t ≡ bandColumnsFit c → t ≡ true
+    → ltb 1024 (length bytes) ≡ (not (bandColumnsFit c) || ltb 1024 (length bytes))
+columns-fit c bytes t p e = sym (ap (λ (x : Bool). not x || ltb 1024 (length bytes)) (sym p ∙ e))
+
+pub tokens-read : (c : BandColumns) (bytes : List ℕ) (r : Tokens) (t : Bool) → t ≡ named 32 (c .mask) → t ≡ true → Reads bytes r → TokensFor c bytes r
+tokens-read c bytes r t p e h = record {
+  answer = cond-true (named 32 (c .mask)) _ _ _ (sym p ∙ e) (h .answer);
+  expression = cond-true (named 32 (c .mask)) _ _ _ (sym p ∙ e) (h .expression);
+}
+
+pub tokens-unread : (c : BandColumns) (bytes : List ℕ) (x : Expression) (t : Bool) → t ≡ named 32 (c .mask) → t ≡ false → x ≡ expressionOf []
+    → TokensFor c bytes (record { answer = Done; expression = x })
+tokens-unread c bytes x t p e h = record {
+  answer = cond-false (named 32 (c .mask)) _ _ _ (sym p ∙ e) refl;
+  expression = cond-false (named 32 (c .mask)) _ _ _ (sym p ∙ e) h;
+}
+
+module _ (cs : List Bool) (c : BandColumns) (x : Expression) (row new : Row) (v t : Bool) (en : new ≡ formedRow c x row) (ev : v ≡ valueIn cs new) (et : t ≡ heldBy c new v) where
+  tested : t ≡ heldUnder cs c (formedRow c x row)
+  tested = et ∙ ap (heldBy c new) ev ∙ ap (heldUnder cs c) en
+
+  pub row-held : t ≡ true → Forms cs c x row (record { answer = Held; row = row })
+  row-held e = record {
+    answer = cond-true (heldUnder cs c (formedRow c x row)) _ _ _ (sym tested ∙ e) refl;
+    after = cond-true (heldUnder cs c (formedRow c x row)) _ _ _ (sym tested ∙ e) refl;
+  }
+
+  pub row-formed : t ≡ false → Forms cs c x row (record { answer = Done; row = new })
+  row-formed e = record {
+    answer = cond-false (heldUnder cs c (formedRow c x row)) _ _ _ (sym tested ∙ e) refl;
+    after = cond-false (heldUnder cs c (formedRow c x row)) _ _ _ (sym tested ∙ e) en;
+  }
+
+-- the expression that is formed, where the Set names one and where it does not
+formed-from : (c : BandColumns) (bytes : List ℕ) (x : Expression) (row : Row)
+    → x ≡ cond (named 32 (c .mask)) (expressionIn (readTokens bytes)) (expressionOf []) → formedRow c x row ≡ formedFrom c bytes row
+unfolding formedRow
+formed-from c bytes x row e =
+    let y : Expression = expressionIn (readTokens bytes) in
+    ap (λ (k : Expression). formedRow c k row) e
+    ∙ ap (λ (k : Expression). record {
+      «read_lock_enabled» = formedRow c y row .«read_lock_enabled»;
+      «write_lock_enabled» = formedRow c y row .«write_lock_enabled»;
+      «read_locked» = formedRow c y row .«read_locked»;
+      «write_locked» = formedRow c y row .«write_locked»;
+      «lock_on_reset» = formedRow c y row .«lock_on_reset»;
+      expression = k;
+    })
+    (twice (named 32 (c .mask)) y (expressionOf []) (row .expression))
+  where
+    twice : (b : Bool) (a o f : Expression) → cond b (cond b a o) f ≡ cond b a f
+    twice true a o f = refl
+    twice false a o f = refl
+
+-- either arm of a test has one of three numbers
+known : (b : Bool) (n : ℕ) → DoneOrBroken n → DoneOrBroken (cond b n 0)
+known true n k = k
+known false n k = inl refl
+
+neither : (a b : Bool) → (a || b) ≡ false → (a ≡ false) × (b ≡ false)
+neither true b e = absurd (true≢false e)
+neither false b e = (refl, e)
+
+module _ (cs : List Bool) (c : BandColumns) (bytes : List ℕ) (row : Row) (u : Bool) (pu : u ≡ (not (bandColumnsFit c) || ltb 1024 (length bytes))) where
+  -- a refusal, by its number
+  refused : (a : Answer) → numberOf a ≡ rowAnswer cs c bytes row → eqb (numberOf a) 0 ≡ false → SetsRow cs c bytes row (record { answer = a; row = row })
+  refused a p z = record {
+    answer = p;
+    after = cond-false (eqb (rowAnswer cs c bytes row) 0) _ _ _ (ap (λ (n : ℕ). eqb n 0) (sym p) ∙ z) refl;
+  }
+
+  pub set-unfit : u ≡ true → SetsRow cs c bytes row (record { answer = OutOfRange; row = row })
+  unfolding rowAnswer
+  set-unfit eu = refused OutOfRange (cond-true (not (bandColumnsFit c) || ltb 1024 (length bytes)) 2 _ _ (sym pu ∙ eu) refl) refl
+
+  module _ (eu : u ≡ false) (r : Tokens) (h : TokensFor c bytes r) where
+    k : ℕ
+    k = tokensAnswer c bytes
+
+    isIt : Bool
+    isIt = heldUnder cs c (formedFrom c bytes row)
+
+    -- the answer, once the fields fit
+    left : cond (eqb k 3) 3 (cond (eqb k 4) 4 (cond isIt 8 0)) ≡ rowAnswer cs c bytes row
+    unfolding rowAnswer k isIt
+    left = cond-false (not (bandColumnsFit c) || ltb 1024 (length bytes)) 2 _ _ (sym pu ∙ eu) refl
+
+    numbers : DoneOrBroken k
+    unfolding k
+    numbers =
+        known (named 32 (c .mask)) (answerIn (readTokens bytes))
+        (read-numbers bytes (borrow.Author.Tests.ltb-false 1024 (length bytes) (neither (not (bandColumnsFit c)) (ltb 1024 (length bytes)) (sym pu ∙ eu) .1)))
+
+    is-k : numberOf (r .answer) ≡ k
+    unfolding k
+    is-k = h .answer
+
+    broken : DoneOrBroken k → (k ≡ 0 → ⊥) → k ≡ cond (eqb k 3) 3 (cond (eqb k 4) 4 (cond isIt 8 0))
+    broken n z =
+        ⊎-elim (λ q. absurd (z q))
+        (λ s. ⊎-elim
+        (λ q. q ∙ cond-true (eqb k 3) 3 _ _ (eq-eqb k 3 q) refl)
+        (λ q. q ∙ cond-false (eqb k 3) 3 _ _ (ne-eqb k 3 (omega arith)) (cond-true (eqb k 4) 4 _ _ (eq-eqb k 4 q) refl))
+        s)
+        n
+
+    pub set-unread : (n : ℕ) → n ≡ numberOf (r .answer) → n ≢ 0 → SetsRow cs c bytes row (record { answer = r .answer; row = row })
+    set-unread n en e =
+        let z : eqb (numberOf (r .answer)) 0 ≡ false = ap (λ (m : ℕ). eqb m 0) (sym en) ∙ ne-eqb n 0 e in
+        refused (r .answer) (is-k ∙ broken numbers (λ s. eqb-false (numberOf (r .answer)) 0 z (is-k ∙ s)) ∙ left) z
+
+    whole : k ≡ 0 → cond isIt 8 0 ≡ rowAnswer cs c bytes row
+    whole z =
+        cond-false (eqb k 3) 3 _ _ (ne-eqb k 3 (omega arith)) (cond-false (eqb k 4) 4 _ _ (ne-eqb k 4 (omega arith)) refl) ∙ left
+
+    flip : (x : Bool) (y z : Row) → cond x y z ≡ cond (eqb (cond x 8 0) 0) z y
+    flip true y z = refl
+    flip false y z = refl
+
+    pub set-formed : (n : ℕ) (q : RowAnswer) → n ≡ numberOf (r .answer) → n ≡ 0 → Forms cs c (r .expression) row q → SetsRow cs c bytes row q
+    unfolding isIt
+    set-formed n q en e s =
+        let z : k ≡ 0 = sym is-k ∙ sym en ∙ e in
+        let f : formedRow c (r .expression) row ≡ formedFrom c bytes row = formed-from c bytes (r .expression) row (h .expression) in
+        let i : heldUnder cs c (formedRow c (r .expression) row) ≡ isIt = ap (heldUnder cs c) f in
+        let w : cond isIt 8 0 ≡ rowAnswer cs c bytes row = whole z in
+        record {
+          answer = s .answer ∙ ap (λ (x : Bool). cond x 8 0) i ∙ w;
+          after = s .after ∙ ap₂ (λ (x : Bool) (y : Row). cond x row y) i f ∙ flip isIt row (formedFrom c bytes row) ∙ ap (λ (m : ℕ). cond (eqb m 0) (formedFrom c bytes row) row) w;
+        }

@@ -1,0 +1,79 @@
+// A Set of one row (document 01, 'Bands'): its answer and the row that it forms, before the bands settle.
+ghost use mathlib.Core.Bool.{not, _||_};
+ghost use mathlib.Core.Path.{_≡_};
+ghost use lib.Dec.{ltb};
+ghost use lib.ListN.{length};
+ghost use Rattle.band.specs.Sets.{columnsFit};
+ghost use Rattle.row_set.specs.Forming.{TokensFor, Forms, SetsRow};
+use answer::Answer;
+use band::BandColumns;
+use band::Row;
+use expression::Expression;
+use token_reader::Tokens;
+
+// What a Set of a row hands back: the row that it forms, or the row as it was where it is refused.
+pub struct RowAnswer {
+    pub answer: Answer,
+    pub row: Row,
+}
+
+// Whether a field of a band Set exceeds its range.
+fn unfit(columns: BandColumns, tokens: &[u8]) -> bool
+    ensures { λ r. ⌜ r ≡ (not (columnsFit columns) || ltb 1024 (length (now (tokens .entry)))) ⌝ }
+{
+    if columns.fit() {
+        return token_reader::MOST_BYTES < tokens.len();
+    }
+    true
+}
+
+// What the bytes of a band Set read to, where the Set names them.
+fn tokens_for(columns: BandColumns, tokens: &[u8]) -> Tokens
+    ensures { λ r. ⌜ TokensFor columns (now (tokens .entry)) r ⌝ }
+{
+    if columns.names_expression() {
+        return token_reader::read(tokens);
+    }
+    let expression = Expression::empty();
+    Tokens {
+        answer: Answer::Done,
+        expression,
+    }
+}
+
+// The row that a Set forms, unless it is held.
+fn form(row: Row, conditions: [bool; 16], columns: BandColumns, expression: Expression) -> RowAnswer
+    ensures { λ r. ⌜ Forms conditions columns expression row r ⌝ }
+{
+    let new = row.form(columns, expression);
+    let v = new.value(conditions);
+    if new.held(columns, v) {
+        return RowAnswer {
+            answer: Answer::Held,
+            row,
+        };
+    }
+    RowAnswer {
+        answer: Answer::Done,
+        row: new,
+    }
+}
+
+// What a Set makes of a row under the sixteen conditions: 2, 3, 4, 8 or done.
+pub fn set(row: Row, conditions: [bool; 16], columns: BandColumns, tokens: &[u8]) -> RowAnswer
+    ensures { λ r. ⌜ SetsRow conditions columns (now (tokens .entry)) row r ⌝ }
+{
+    if unfit(columns, tokens) {
+        return RowAnswer {
+            answer: Answer::OutOfRange,
+            row,
+        };
+    }
+    let read = tokens_for(columns, tokens);
+    let answer = read.answer;
+    if answer.number() == 0 {
+        let expression = read.expression;
+        return form(row, conditions, columns, expression);
+    }
+    RowAnswer { answer, row }
+}
