@@ -98,7 +98,7 @@ fn turn_once(sensors: [Sensor; 16], left: u32) -> Turn
     Turn {
         sensors: next,
         left: left - 1 - k,
-        stops: stops_if(stop),
+        stops: one_if(stop) as u64,
     }
 }
 
@@ -149,12 +149,6 @@ pub fn conditions(sensors: [Sensor; 16], count: usize) -> [bool; 16]
 }
 
 fn one_if(b: bool) -> usize
-    ensures { λ r. ⌜ r ≡ oneIf b ⌝ }
-{
-    if b { 1 } else { 0 }
-}
-
-fn stops_if(b: bool) -> u64
     ensures { λ r. ⌜ r ≡ oneIf b ⌝ }
 {
     if b { 1 } else { 0 }

@@ -25,8 +25,8 @@ sub-t7 c = search needs
 sub-t8 : tie.Need-sub-t8
 sub-t8 c = search few-left
 
-stops-if-requires : tie.Need-stops-if-requires
-stops-if-requires c κs = search needs
+one-if-requires : tie.Need-one-if-requires
+one-if-requires c κs = search needs
 
 returns : tie.Need-returns
 returns c = search turned
@@ -42,5 +42,5 @@ turn-once-spec =
     lower-all-requires
     sub-t7
     sub-t8
-    stops-if-requires
+    one-if-requires
     returns)
