@@ -20,7 +20,7 @@ pub record Calm (k : ℕ) (d : Drive) : Type 0 where
   pub settled : settleOf d ≡ d
   pub timers : AllQuiet k (d .sensors)
 
-jump-settled : (k : ℕ) (d : Drive) → settleOf d ≡ d → settleOf (jumpOf k d) ≡ jumpOf k d
+pub jump-settled : (k : ℕ) (d : Drive) → settleOf d ≡ d → settleOf (jumpOf k d) ≡ jumpOf k d
 unfolding jumpOf
 jump-settled k d e =
     settle-with d _ (lowered-conditions k (d .«sensor_count») (d .sensors))

@@ -41,7 +41,7 @@ use Rattle.events.proofs.Answering.{refuses, grants, done, by-answer}
 
 -- ---- rows
 
-row-there : (count i : ℕ) (t : Bool) → t ≡ not (isRow count i) → t ≡ false → isRow count i ≡ true
+pub row-there : (count i : ℕ) (t : Bool) → t ≡ not (isRow count i) → t ≡ false → isRow count i ≡ true
 row-there count i t p e = not-false (isRow count i) (sym p ∙ e)
 
 -- the place of a row that is there
@@ -65,10 +65,10 @@ stored-refused d x a q t p e w = record {
 }
 
 -- a test that is not met, in front of an answer
-behind : (b : Bool) (n m k : ℕ) → b ≡ true → n ≡ m → n ≡ cond (not b) k m
+pub behind : (b : Bool) (n m k : ℕ) → b ≡ true → n ≡ m → n ≡ cond (not b) k m
 behind b n m k e q = q ∙ sym (ap (λ (x : Bool). cond (not x) k m) e)
 
-cond-not : (b : Bool) (x y : ℕ) → cond b x y ≡ cond (not b) y x
+pub cond-not : (b : Bool) (x y : ℕ) → cond b x y ≡ cond (not b) y x
 cond-not true x y = refl
 cond-not false x y = refl
 
@@ -121,7 +121,7 @@ reset-refused d t q h w = refuses d (reset t) OutOfRange q w (cond-true (ltb 2 t
 
 -- ---- geometry and transfer
 
-place-answer : (d : Drive) (b start n : ℕ) → placeAnswer (d .capacity) (d .«band_count») (d .spans) b start n ≡ answerOf d (geometry b start n)
+pub place-answer : (d : Drive) (b start n : ℕ) → placeAnswer (d .capacity) (d .«band_count») (d .spans) b start n ≡ answerOf d (geometry b start n)
 unfolding placeAnswer answerOf
 place-answer d b start n = cond-not (isRow (d .«band_count») b) _ 1
 
