@@ -1,12 +1,12 @@
 -- An event on a drive whose bands are settled: what the run stores is what the event makes of the drive.
-use mathlib.Core.Path.{_≡_, refl, sym, ap, ap₂, _∙_}
+use mathlib.Core.Path.{_≡_, refl, sym, ap, ap₂, _∙_, subst}
 use Prim.Native.Nat.{ℕ, zero, suc, _+_, _<_, _≤_}
 use native.Mathlib.Omega.{arith}
 use mathlib.Core.Bool.{Bool, true, false, not, cond, _&&_, Bool·beq, true≢false}
 use mathlib.Core.List.{List, [], _∷_, map}
 use mathlib.Core.Logic.{_⊎_, inl, inr, _≢_, ⊎-elim}
 use lib.Dec.{eqb, ltb}
-use lib.ListN.{length, getD, set}
+use lib.ListN.{length, getD, set, replicate}
 use borrow.Author.Tests.{le-ltb, ne-eqb}
 use Rattle.base.specs.Lists.{oneIf, any}
 use Rattle.base.specs.Rows.{isRow, modify}
@@ -22,7 +22,7 @@ use Rattle.sensor.specs.declared.single.Sensor.{Sensor}
 use Rattle.sensor.specs.declared.single.SensorAnswer.{SensorAnswer}
 use Rattle.sensor.specs.declared.columns.SensorColumns.{SensorColumns}
 use Rattle.sensor.specs.Level.{greatestReading}
-use Rattle.sensor.specs.Single.{freshSensor, readingAnswer, readingOf, judgeOf, turnedTo, powerCycleOf, loweredBy, endsNext, Answers}
+use Rattle.sensor.specs.Single.{readingAnswer, readingOf, judgeOf, turnedTo, powerCycleOf, loweredBy, endsNext, Answers}
 use Rattle.sensor.specs.Single.{tickOf as sensorTick}
 use Rattle.sensor.specs.Columns.{setAnswer, setOf, storedOf, switchedOf}
 use Rattle.sensor.specs.Columns.{columnsFit as sensorColumnsFit}
@@ -32,20 +32,21 @@ use Rattle.sensors.proofs.Quiet.{AllQuiet, quietTicks-quiet}
 use Rattle.band.specs.declared.Side.{Side}
 use Rattle.band.specs.declared.Row.{Row}
 use Rattle.band.specs.declared.BandColumns.{BandColumns}
-use Rattle.band.specs.Rows.{freshRow, isOpen, closedOn, settleRow, resetRow}
+use Rattle.band.specs.Rows.{freshRow, isOpen, closedOn, settleRow}
 use Rattle.bands.proofs.Open.{settle-shut, reset-shut}
 use Rattle.geometry.specs.declared.Span.{Span}
 use Rattle.geometry.specs.declared.Placed.{Placed}
 use Rattle.geometry.specs.Events.{placed, placeAnswer, placeOf, transferAnswer, Places}
 use Rattle.drive.specs.declared.Drive.{Drive}
+use Rattle.drive.specs.declared.Fresh.{Fresh}
 use Rattle.drive.specs.declared.Reply.{Reply}
-use Rattle.drive.specs.State.{withRows, withSpans, withSensors, conditionsOf, settleOf, tickOf, stopNext}
+use Rattle.drive.specs.State.{headerFits, freshDrive, Freshens, withRows, withSpans, withSensors, conditionsOf, settleOf, tickOf, stopNext}
 use Rattle.drive.specs.Events.{Event, reading, elapse, reset, sensorSet, bandSet, geometry, transfer}
 use Rattle.drive.specs.Events.{answerOf, actOf, stepOf, elapsedStops, stopsOf, sideOf, formedFrom, Replies}
 use Rattle.drive.proofs.Settling.{settle-with, tick-settled}
 use Rattle.elapse.specs.declared.Elapsed.{Elapsed}
 use Rattle.elapse.specs.Jumps.{jumpOf, Elapses}
-use Rattle.elapse.proofs.Calm.{Calm, drive-jumps, jump-settled}
+use Rattle.elapse.proofs.Calm.{Calm, drive-jumps}
 use Rattle.row_set.specs.declared.RowAnswer.{RowAnswer}
 use Rattle.row_set.specs.Forming.{rowAnswer, SetsRow}
 use Rattle.events.specs.Steps.{Takes, refused}
@@ -154,9 +155,9 @@ module _ (d : Drive) (k : Kept d) (s : ℕ) (t : Bool) (p : t ≡ not (isRow (d 
     unfolding held Still
     sensor-kept o u x eo eu f q =
         let z : settleOf held ≡ held =
-            still-settles d (set (d .sensors) s (r .sensor)) (k .settled)
-            (⊎-elim (λ h. inl (sym eo ∙ h)) (λ h. inr (same-conditions (d .«sensor_count») (d .sensors) s y (r .sensor) within h))
-            (calm o (getD (d .sensors) s y .condition) (r .sensor .condition) u eu f)) in
+        still-settles d (set (d .sensors) s (r .sensor)) (k .settled)
+        (⊎-elim (λ h. inl (sym eo ∙ h)) (λ h. inr (same-conditions (d .«sensor_count») (d .sensors) s y (r .sensor) within h))
+        (calm o (getD (d .sensors) s y .condition) (r .sensor .condition) u eu f)) in
         light d ev n 0 x held (sensor-ran held (sym z)) q refl
 
   module _ (v a : ℕ) (ea : a ≡ numberOf (r .answer)) (h : Answers (readingAnswer v) (readingOf v (getD (d .sensors) s y)) r) where
@@ -252,7 +253,7 @@ pub elapse-quiet : (d : Drive) (k : Kept d) (n q : ℕ) (l : List Sensor) (x : D
     → x ≡ withSensors l d → Light d (elapse n) 0 0 x
 unfolding jumpOf
 elapse-quiet d k n q l x h eq en el ex =
-    let c : Calm n d = record { settled = k .settled; timers = mathlib.Core.Path.subst (λ (m : ℕ). AllQuiet m (d .sensors)) (sym eq ∙ en) (quietTicks-quiet n (d .sensors)) } in
+    let c : Calm n d = record { settled = k .settled; timers = subst (λ (m : ℕ). AllQuiet m (d .sensors)) (sym eq ∙ en) (quietTicks-quiet n (d .sensors)) } in
     light d (elapse n) 0 0 x (jumpOf n d)
     (elapsed d n 0 (jumpOf n d) (k .settled) h (sym (quiet-stops tickOf stopNext jumpOf Calm drive-jumps n d c)) (sym (quiet-ticks tickOf stopNext jumpOf Calm drive-jumps n d c)))
     (ex ∙ ap (λ (m : List Sensor). withSensors m d) el) refl
@@ -360,7 +361,7 @@ module _ (d : Drive) (k : Kept d) (b : ℕ) (c : BandColumns) (bytes : List ℕ)
       (map-set (settleRow (conditionsOf d)) (d .rows) b (r .row)
       ∙ ap₂ (λ (rows : List Row) (w : List Bool). set rows b (settleRow w (r .row))) (settled-rows d (k .settled)) (sym conditions-are))
 
-  pub band-ran : (a : ℕ) (new : Row) (x : Drive) → a ≡ numberOf (r .answer) → new ≡ settleRow cs (r .row) → x ≡ withRows (set (d .rows) b new) d → Ran d (bandSet b c bytes) a 0 x
+  band-ran : (a : ℕ) (new : Row) (x : Drive) → a ≡ numberOf (r .answer) → new ≡ settleRow cs (r .row) → x ≡ withRows (set (d .rows) b new) d → Ran d (bandSet b c bytes) a 0 x
   unfolding unsettled actOf
   band-ran a new x ea en ex =
       stored d (bandSet b c bytes) a x unsettled (k .settled)
@@ -382,6 +383,13 @@ module _ (d : Drive) (k : Kept d) (b : ℕ) (c : BandColumns) (bytes : List ℕ)
 
       cond-drop : (z : Bool) → z ≡ false → cond z (formedFrom c bytes (getD (d .rows) b y)) (getD (d .rows) b y) ≡ getD (d .rows) b y
       cond-drop z f = ap (λ (w : Bool). cond w (formedFrom c bytes (getD (d .rows) b y)) (getD (d .rows) b y)) f
+
+-- the same, with the bytes as the part of the script that was handed on
+pub part-ran : (d : Drive) (k : Kept d) (b : ℕ) (c : BandColumns) (part bytes : List ℕ) (t : Bool) (y : Row) (cs : List Bool) (r : RowAnswer) (a : ℕ) (new : Row) (x : Drive)
+    → t ≡ not (isRow (d .«band_count») b) → t ≡ false → cs ≡ conditionsBelow (d .«sensor_count») (d .sensors) → part ≡ bytes → SetsRow cs c part (getD (d .rows) b y) r
+    → a ≡ numberOf (r .answer) → new ≡ settleRow cs (r .row) → x ≡ withRows (set (d .rows) b new) d → Ran d (bandSet b c bytes) a 0 x
+part-ran d k b c part bytes t y cs r a new x p e ec et h ea en ex =
+    band-ran d k b c bytes t p e y cs ec r (subst (λ (l : List ℕ). SetsRow cs c l (getD (d .rows) b y) r) et h) a new x ea en ex
 
 -- ---- geometry and transfer
 
@@ -418,3 +426,33 @@ transfer-ran d k w start n side closed r a x h es ec er ea ex =
     ∙ cond-false (ltb 1 w) 2 _ _ (le-ltb 1 w h) refl)
     refl (λ z. refl) (λ z. refl) (sym (k .settled)))
     ex refl
+
+-- the test of a new condition, as the code makes it
+pub was-true : (o a b : Bool) → o ≡ true → a ≡ true → not b ≡ (o && not (Bool·beq a b))
+was-true o a true e f = ap₂ (λ (x y : Bool). x && not (Bool·beq y true)) (sym e) (sym f)
+was-true o a false e f = ap₂ (λ (x y : Bool). x && not (Bool·beq y false)) (sym e) (sym f)
+
+pub was-false : (o a b : Bool) → o ≡ true → a ≡ false → b ≡ (o && not (Bool·beq a b))
+was-false o a true e f = ap₂ (λ (x y : Bool). x && not (Bool·beq y true)) (sym e) (sym f)
+was-false o a false e f = ap₂ (λ (x y : Bool). x && not (Bool·beq y false)) (sym e) (sym f)
+
+-- ---- the fresh drive
+
+fresh-shut : any isOpen (replicate 16 freshRow) ≡ false
+unfolding any freshRow
+fresh-shut = refl
+
+fresh-is-kept : (capacity bands sensors : ℕ) → Kept (freshDrive capacity bands sensors)
+unfolding freshDrive settleOf
+fresh-is-kept capacity bands sensors = record {
+  rows = refl;
+  sensors = refl;
+  settled = ap (λ (rows : List Row). withRows rows (freshDrive capacity bands sensors)) (settle-shut _ (replicate 16 freshRow) fresh-shut);
+}
+
+pub fresh-kept : (capacity bands sensors : ℕ) (f : Fresh) → Freshens capacity bands sensors f → Kept (f .drive)
+fresh-kept capacity bands sensors f p = subst Kept (sym (p .drive)) (go (headerFits capacity bands sensors))
+  where
+    go : (b : Bool) → Kept (cond b (freshDrive capacity bands sensors) (freshDrive 1 1 0))
+    go true = fresh-is-kept capacity bands sensors
+    go false = fresh-is-kept 1 1 0

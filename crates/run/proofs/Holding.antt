@@ -21,7 +21,8 @@ use Rattle.script.specs.declared.Checked.the-variants as C
 use Rattle.script.specs.Whole.{Script, readScript, checkedIn, checkOf}
 use Rattle.script.proofs.Few.{few-events}
 use Rattle.run.specs.declared.Ran.{Ran}
-use Rattle.run.specs.Outcome.{along, answersOf, stopsIn, over, outcome, outcomeIn, refusedRun, runEvents, runScript, fewerOf, Refuses, RunsFirst}
+use Rattle.in_place.specs.Course.{along, answersOf, stopsIn, over}
+use Rattle.run.specs.Outcome.{outcome, outcomeIn, refusedRun, runEvents, runScript, fewerOf, Refuses, RunsFirst}
 use Rattle.run.specs.Holds.{ownAnswers, RanWhole, Holds, RunWhole, HoldsOfTwo}
 use Rattle.run.proofs.Whole.{all-taken, accepted-is, bad-script, script-run}
 

@@ -2,56 +2,17 @@
 use Prim.Native.Nat.{ℕ, _≤_}
 use mathlib.Core.Path.{_≡_}
 use mathlib.Core.Bool.{cond, _&&_}
-use mathlib.Core.List.{List, [], _∷_, _++_}
+use mathlib.Core.List.{List}
 use lib.Dec.{leb, ltb}
-use lib.ListN.{length, take, drop}
+use lib.ListN.{length, take}
 use Rattle.answer.specs.declared.Answer.{Answer}
 use Rattle.answer.specs.Numbers.{numberOf}
 use Rattle.drive.specs.declared.Drive.{Drive}
 use Rattle.drive.specs.State.{freshDrive}
-use Rattle.drive.specs.Events.{Event, answerOf, stopsOf, stepOf, runOf}
-use Rattle.script.specs.Fields.{Parsed, event, broken}
-use Rattle.script.specs.Whole.{events, eventsFrom, Script, accepted, bad, readScript}
+use Rattle.drive.specs.Events.{Event, runOf}
+use Rattle.script.specs.Whole.{events, Script, accepted, bad, readScript}
+use Rattle.in_place.specs.Course.{answersOf, stopsIn, over}
 use Rattle.run.specs.declared.Ran.{Ran}
-use Rattle.run.specs.declared.Turn.{Turn}
-
--- one event run: its answer, its stops, the drive that it left, and the place after it
-pub data Turned : Type 0 where
-  turned : (answer stops : ℕ) (drive : Drive) (next : ℕ) → Turned
-
-abbrev pub turnIn : Turn → Turned
-turnIn t = turned (t .answer) (t .stops) (t .drive) (t .next)
-
-abbrev pub turnOf : Drive → ℕ → Parsed → Turned
-turnOf d at (event e next) = turned (answerOf d e) (stopsOf d e) (stepOf d e) next
-turnOf d at broken = turned 0 0 d at
-
--- what each event of a list gets, on the drive that the last one left
-unfoldable pub along : (Drive → Event → ℕ) → Drive → List Event → List ℕ
-along f d [] = []
-along f d (e ∷ es) = f d e ∷ along f (stepOf d e) es
-
--- "each event gets its answer"
-abbrev pub answersOf : Drive → List Event → List ℕ
-answersOf d es = along answerOf d es
-
--- and its stops, 0 for all but an elapse
-abbrev pub stopsIn : Drive → List Event → List ℕ
-stopsIn d es = along stopsOf d es
-
--- bytes from the start of a lent buffer, and the rest of it untouched
-abbrev pub over : List ℕ → List ℕ → List ℕ
-over bytes lent = bytes ++ drop (length bytes) lent
-
--- so many events of a script from a place on, which all its events follow
-pub record Went (es : List Event) (fresh : Drive) (answers stops : List ℕ) (drive : Drive) (answers' stops' : List ℕ) : Type 0 where
-  pub drive-is : drive ≡ runOf fresh es
-  pub answers-are : answers' ≡ over (answersOf fresh es) answers
-  pub stops-are : stops' ≡ over (stopsIn fresh es) stops
-
-abbrev pub Goes : List ℕ → ℕ → ℕ → Drive → List ℕ → List ℕ → Drive → List ℕ → List ℕ → Type 0
-Goes s start count fresh answers stops drive answers' stops' =
-    (es : List Event) → eventsFrom s start ≡ events es → count ≤ length es → Went (take count es) fresh answers stops drive answers' stops'
 
 -- ---- what a run hands back: answer, place, number of events run and drive, with the two buffers
 

@@ -1,17 +1,12 @@
 // The run of a script (document 01, 'Script'): the events of a script, one after the other, from the fresh drive of its header.
 ghost use mathlib.Core.Path.{_≡_};
-ghost use Prim.Native.Nat.{_≤_};
-ghost use lib.ListN.{length};
-ghost use Rattle.script.specs.Fields.{eventAt};
 ghost use Rattle.script.specs.Whole.{readScript};
 ghost use Rattle.run.specs.Holds.{Holds, HoldsOfTwo};
-ghost use Rattle.run.specs.Outcome.{turnIn, turnOf, Goes, fewerOf, Refuses, RunsFirst, outcomeIn, runScript};
+ghost use Rattle.run.specs.Outcome.{fewerOf, Refuses, RunsFirst, outcomeIn, runScript};
 use answer::Answer;
 use drive::Drive;
 use script::Checked;
-use script::EventRead;
 use script::HeaderRead;
-use sensor::Sensor;
 
 // What a run hands back: the place is that of a bad script, else 0; the count is that of the events run.
 pub struct Ran {
@@ -25,74 +20,6 @@ pub struct Ran {
 pub struct RanTwo {
     pub first: Ran,
     pub second: Ran,
-}
-
-// One event run: the bytes that tell of it, the drive it left, and the place after it.
-struct Turn {
-    answer: u8,
-    stops: u8,
-    drive: Drive,
-    next: usize,
-}
-
-// An elapse's stops as a byte: there are at most sixteen, as there are sensors.
-fn byte(stops: u64, sensors: [Sensor; 16]) -> u8
-    requires { ⌜ stops ≤ length sensors ⌝ }
-    ensures { λ r. ⌜ r ≡ stops ⌝ }
-{
-    stops as u8
-}
-
-// Runs the event at a place; nothing where there is none.
-fn run_event(script: &[u8], at: usize, drive: Drive) -> Turn
-    ensures { λ r. ⌜ turnIn r ≡ turnOf drive at (eventAt (now (script .entry)) at) ⌝ }
-{
-    let EventRead::Is(kind, start, count, next) = reader::next_event(script, at) else {
-        return Turn {
-            answer: 0,
-            stops: 0,
-            drive,
-            next: at,
-        };
-    };
-    let sensors = drive.sensors;
-    let tokens = script::tokens_at(script, start, count);
-    let reply = events::apply(drive, kind, tokens);
-    let answer = reply.answer;
-    let left = reply.drive;
-    Turn {
-        answer: answer.number(),
-        stops: byte(reply.stops, sensors),
-        drive: left,
-        next,
-    }
-}
-
-// Runs so many events from a place on, and writes a byte for each into both buffers.
-fn run_events(
-    script: &[u8],
-    start: usize,
-    count: usize,
-    fresh: Drive,
-    answers: &mut [u8],
-    stops: &mut [u8],
-) -> Drive
-    requires { ⌜ (count ≤ length (now answers)) × (count ≤ length (now stops)) ⌝ }
-    ensures { λ r. ⌜ Goes (now (script .entry)) start count fresh (now (answers .entry)) (now (stops .entry)) r (now (answers .exit)) (now (stops .exit)) ⌝ }
-{
-    let mut drive = fresh;
-    let mut at = start;
-    let mut i = 0;
-    while i < count {
-        let done = run_event(script, at, drive);
-        answers[i] = done.answer;
-        stops[i] = done.stops;
-        let left = done.drive;
-        drive = left;
-        at = done.next;
-        i += 1;
-    }
-    drive
 }
 
 // How many events to run: those asked for, or all where there are fewer.
@@ -134,7 +61,7 @@ fn run_first(script: &[u8], count: usize, answers: &mut [u8], stops: &mut [u8]) 
     };
     let made = Drive::fresh(capacity, bands, sensors);
     let fresh = made.drive;
-    let drive = run_events(script, at, count, fresh, answers, stops);
+    let drive = in_place::run_events(script, at, count, fresh, answers, stops);
     Ran {
         answer: Answer::Done,
         place: 0,

@@ -1,3 +1,4 @@
+use Rattle.in_place.proofs.Storing.{fresh-kept}
 use Rattle.run.proofs.Whole.{short-answers, short-stops, no-header, ran-first}
 use borrow.Author.Needs.{needs}
 use Rattle.run.proofs.run_first.Statement.{statement}
@@ -34,7 +35,7 @@ fresh-requires : tie.Need-fresh-requires
 fresh-requires c κs = search needs
 
 run-events-requires : tie.Need-run-events-requires
-run-events-requires c κs = search needs
+run-events-requires c κs = (search needs, search fresh-kept)
 
 same-length : tie.Need-same-length
 same-length c = search needs
