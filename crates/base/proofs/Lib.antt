@@ -4,3 +4,4 @@ pub mod Loops
 pub mod Jumps
 pub mod Columns
 pub mod Rows
+pub mod Spliced
