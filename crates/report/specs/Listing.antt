@@ -26,7 +26,7 @@ use Rattle.report.specs.declared.Listed.{Listed}
 -- the digits of a number, without leading zeros; at most so many
 unfoldable pub digits : ℕ → ℕ → List ℕ
 digits zero n = []
-digits (suc most) n = cond (ltb n 10) (48 + n ∷ []) (digits most (n / 10) ++ (48 + n % 10 ∷ []))
+digits (suc most) n = cond (ltb n 10) ((48 + n) ∷ []) (digits most (n / 10) ++ ((48 + n % 10) ∷ []))
 
 -- a number n has at most n + 1 digits
 unfoldable pub decimal : ℕ → List ℕ
@@ -114,7 +114,7 @@ runLines (outcome answer place count drive answers stops) =
 
 -- a result of which every part is there: the rows of its drive, and a byte in both buffers for each event
 pub record Sized (count : ℕ) (drive : Drive) (answers stops : List ℕ) : Type 0 where
-  pub bands : drive .«band_count» ≤ 16
-  pub sensors : drive .«sensor_count» ≤ 16
-  pub answers : count ≤ length answers
-  pub stops : count ≤ length stops
+  pub few-bands : drive .«band_count» ≤ 16
+  pub few-sensors : drive .«sensor_count» ≤ 16
+  pub long : count ≤ length answers
+  pub wide : count ≤ length stops
