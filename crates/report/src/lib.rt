@@ -4,9 +4,10 @@ ghost use Prim.Native.Nat.{_≤_};
 ghost use mathlib.Core.List.{[], _∷_};
 ghost use lib.ListN.{length};
 ghost use Rattle.base.specs.Lists.{oneIf};
+ghost use Rattle.base.specs.Spliced.{spliced};
 ghost use Rattle.band.specs.Rows.{valueIn};
 ghost use Rattle.script.specs.Whole.{readScript};
-ghost use Rattle.run.specs.Outcome.{over, outcomeIn};
+ghost use Rattle.run.specs.Outcome.{outcomeIn};
 ghost use Rattle.report.specs.Listing.{
   decimal,
   line,
@@ -204,7 +205,7 @@ fn put_run(out: &mut [u8], ran: Ran, answers: &[u8], stops: &[u8]) -> usize
 // Copies bytes to the output's start.
 fn copy(out: &mut [u8], bytes: &[u8])
     requires { ⌜ Room (now bytes) 0 (now out) ⌝ }
-    ensures { λ _. ⌜ now (out .exit) ≡ over (now (bytes .entry)) (now (out .entry)) ⌝ }
+    ensures { λ _. ⌜ now (out .exit) ≡ spliced (now (out .entry)) 0 (now (bytes .entry)) ⌝ }
 {
     let mut i = 0;
     while i < bytes.len() {

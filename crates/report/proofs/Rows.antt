@@ -1,0 +1,47 @@
+-- The lines of a band and of a sensor, by the numbers that the calls hand back.
+use mathlib.Core.Path.{_≡_, refl, sym, ap, _∙_}
+use Prim.Native.Nat.{ℕ, _+_, _≤_, _<_}
+use native.Mathlib.Omega.{arith}
+use mathlib.Core.Bool.{Bool}
+use mathlib.Core.List.{List, [], _∷_}
+use lib.ListN.{length, getD}
+use Rattle.base.specs.Lists.{oneIf}
+use Rattle.base.proofs.Rows.{getD-any}
+use Rattle.phases.specs.declared.Phase.{Phase}
+use Rattle.phases.specs.Phases.{phaseNumber}
+use Rattle.sensor.specs.declared.single.Sensor.{Sensor}
+use Rattle.band.specs.declared.Row.{Row}
+use Rattle.band.specs.Rows.{valueIn}
+use Rattle.report.specs.Listing.{line, bandLine, sensorLine, Puts, Room}
+
+module _ (number : ℕ) (row : Row) (conditions : List Bool) (value : Bool) (a b v : ℕ) (p : value ≡ valueIn conditions row) (q : a ≡ oneIf (row .«read_locked»))
+    (r : b ≡ oneIf (row .«write_locked»)) (s : v ≡ oneIf value) where
+  band-is : line 98 (number ∷ a ∷ b ∷ v ∷ []) ≡ bandLine number row (valueIn conditions row)
+  band-is = rw (q, r, s, p)
+
+  pub band-room : (at : ℕ) (d : List ℕ) → Room (bandLine number row (valueIn conditions row)) at d → Room (line 98 (number ∷ a ∷ b ∷ v ∷ [])) at d
+  band-room at d h = omega (arith, h, ap length band-is)
+
+  pub band-put : (at next : ℕ) (d after : List ℕ) → Puts (line 98 (number ∷ a ∷ b ∷ v ∷ [])) d at next after
+      → Puts (bandLine number row (valueIn conditions row)) d at next after
+  band-put at next d after h = rw (← band-is) h
+
+module _ (number : ℕ) (s : Sensor) (a c n : ℕ) (p : a ≡ oneIf (s .level)) (q : n ≡ phaseNumber (s .phase)) (r : c ≡ oneIf (s .condition)) where
+  sensor-is : line 115 (number ∷ a ∷ n ∷ c ∷ s .timer ∷ []) ≡ sensorLine number s
+  sensor-is = rw (p, q, r)
+
+  pub sensor-room : (at : ℕ) (d : List ℕ) → Room (sensorLine number s) at d → Room (line 115 (number ∷ a ∷ n ∷ c ∷ s .timer ∷ [])) at d
+  sensor-room at d h = omega (arith, h, ap length sensor-is)
+
+  pub sensor-put : (at next : ℕ) (d after : List ℕ) → Puts (line 115 (number ∷ a ∷ n ∷ c ∷ s .timer ∷ [])) d at next after
+      → Puts (sensorLine number s) d at next after
+  sensor-put at next d after h = rw (← sensor-is) h
+
+-- a row that exists does not depend on the default
+
+pub band-any : (i : ℕ) (rows : List Row) (conditions : List Bool) (y z : Row) → i < length rows
+    → bandLine i (getD rows i y) (valueIn conditions (getD rows i y)) ≡ bandLine i (getD rows i z) (valueIn conditions (getD rows i z))
+band-any i rows conditions y z h = ap (λ (row : Row). bandLine i row (valueIn conditions row)) (getD-any rows i y z h)
+
+pub sensor-any : (i : ℕ) (sensors : List Sensor) (y z : Sensor) → i < length sensors → sensorLine i (getD sensors i y) ≡ sensorLine i (getD sensors i z)
+sensor-any i sensors y z h = ap (sensorLine i) (getD-any sensors i y z h)

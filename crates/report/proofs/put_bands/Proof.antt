@@ -1,0 +1,59 @@
+use Rattle.report.proofs.Putting.{Listing, lines-begin, lines-room, lines-again, lines-done}
+use Rattle.report.proofs.Rows.{band-any}
+use Rattle.report.specs.Listing.{bandLine}
+use Rattle.band.specs.Rows.{freshRow, valueIn}
+use Prim.Native.Nat.{_-_}
+use lib.ListN.{getD}
+use borrow.Author.Needs.{needs}
+use Rattle.report.proofs.put_bands.Statement.{statement}
+use Rattle.report.proofs.put_bands.Tie as tie
+use Rattle.report.proofs.put_band.Reads as put-band-reads
+
+abbrev Inv-loop : tie.InvT-loop
+Inv-loop out₀ start conditions count rows at₀ i₀ out at i = Listing (λ i. bandLine i (getD rows i freshRow) (valueIn conditions (getD rows i freshRow))) count out₀ at₀ out at i
+
+abbrev μ-loop : tie.MeasureT-loop
+μ-loop out₀ start conditions count rows at₀ i₀ out at i = count - i
+
+loop-holds : tie.Need-loop-holds Inv-loop μ-loop
+loop-holds c = search lines-begin
+
+mul-row : tie.Need-mul-row Inv-loop μ-loop
+mul-row c = search needs
+
+array-copy-out-row : tie.Need-array-copy-out-row Inv-loop μ-loop
+array-copy-out-row c = search needs
+
+put-band-requires : tie.Need-put-band-requires Inv-loop μ-loop
+put-band-requires c κs = search (lines-room, band-any, needs)
+
+add-i : tie.Need-add-i Inv-loop μ-loop
+add-i c = search needs
+
+loop-less : tie.Need-loop-less Inv-loop μ-loop
+loop-less c = search needs
+
+loop-again : tie.Need-loop-again Inv-loop μ-loop
+loop-again c = search (lines-again, band-any, needs)
+
+same-length : tie.Need-same-length Inv-loop μ-loop
+same-length c = search needs
+
+returns : tie.Need-returns Inv-loop μ-loop
+returns c = search (lines-done, needs)
+
+pub put-bands-spec : {M : Type 1} → statement M
+put-bands-spec =
+    tie.close
+    (tie.spec
+    Inv-loop
+    μ-loop
+    loop-holds
+    mul-row
+    array-copy-out-row
+    put-band-requires
+    add-i
+    loop-less
+    loop-again
+    same-length
+    returns)
