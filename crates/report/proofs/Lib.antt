@@ -2,3 +2,4 @@ pub mod Decimal
 pub mod Putting
 pub mod Handing
 pub mod Rows
+pub mod Ran

@@ -6,12 +6,12 @@ use mathlib.Core.Bool.{Bool}
 use mathlib.Core.List.{List, [], _∷_}
 use lib.ListN.{length, getD}
 use Rattle.base.specs.Lists.{oneIf}
-use Rattle.base.proofs.Rows.{getD-any}
-use Rattle.phases.specs.declared.Phase.{Phase}
 use Rattle.phases.specs.Phases.{phaseNumber}
 use Rattle.sensor.specs.declared.single.Sensor.{Sensor}
+use Rattle.sensor.specs.Single.{freshSensor}
 use Rattle.band.specs.declared.Row.{Row}
-use Rattle.band.specs.Rows.{valueIn}
+use Rattle.band.specs.Rows.{freshRow, valueIn}
+use Rattle.events.specs.Steps.{Takes}
 use Rattle.report.specs.Listing.{line, bandLine, sensorLine, Puts, Room}
 
 module _ (number : ℕ) (row : Row) (conditions : List Bool) (value : Bool) (a b v : ℕ) (p : value ≡ valueIn conditions row) (q : a ≡ oneIf (row .«read_locked»))
@@ -37,11 +37,12 @@ module _ (number : ℕ) (s : Sensor) (a c n : ℕ) (p : a ≡ oneIf (s .level)) 
       → Puts (sensorLine number s) d at next after
   sensor-put at next d after h = rw (← sensor-is) h
 
--- a row that exists does not depend on the default
+-- the row that was taken
 
-pub band-any : (i : ℕ) (rows : List Row) (conditions : List Bool) (y z : Row) → i < length rows
-    → bandLine i (getD rows i y) (valueIn conditions (getD rows i y)) ≡ bandLine i (getD rows i z) (valueIn conditions (getD rows i z))
-band-any i rows conditions y z h = ap (λ (row : Row). bandLine i row (valueIn conditions row)) (getD-any rows i y z h)
+pub band-there : (i : ℕ) (rows : List Row) (conditions : List Bool) (row : Row) → Takes rows i freshRow row
+    → bandLine i row (valueIn conditions row) ≡ bandLine i (getD rows i freshRow) (valueIn conditions (getD rows i freshRow))
+band-there i rows conditions row k = ap (λ (x : Row). bandLine i x (valueIn conditions x)) (k .element)
 
-pub sensor-any : (i : ℕ) (sensors : List Sensor) (y z : Sensor) → i < length sensors → sensorLine i (getD sensors i y) ≡ sensorLine i (getD sensors i z)
-sensor-any i sensors y z h = ap (sensorLine i) (getD-any sensors i y z h)
+pub sensor-there : (i : ℕ) (sensors : List Sensor) (s : Sensor) → Takes sensors i freshSensor s
+    → sensorLine i s ≡ sensorLine i (getD sensors i freshSensor)
+sensor-there i sensors s k = ap (λ (x : Sensor). sensorLine i x) (k .element)

@@ -1,11 +1,13 @@
 // The listing of a script (document 01, 'Listing'): a line for each event, then for each band and each sensor, or the place of what is bad.
 ghost use mathlib.Core.Path.{_≡_};
-ghost use Prim.Native.Nat.{_≤_};
+ghost use Prim.Native.Nat.{_≤_, _<_};
 ghost use mathlib.Core.List.{[], _∷_};
 ghost use lib.ListN.{length};
 ghost use Rattle.base.specs.Lists.{oneIf};
 ghost use Rattle.base.specs.Spliced.{spliced};
-ghost use Rattle.band.specs.Rows.{valueIn};
+ghost use Rattle.sensor.specs.Single.{freshSensor};
+ghost use Rattle.band.specs.Rows.{freshRow, valueIn};
+ghost use Rattle.events.specs.Steps.{Takes};
 ghost use Rattle.script.specs.Whole.{readScript};
 ghost use Rattle.run.specs.Outcome.{outcomeIn};
 ghost use Rattle.report.specs.Listing.{
@@ -126,6 +128,14 @@ fn put_band(out: &mut [u8], at: usize, number: usize, row: Row, conditions: [boo
     put_line(out, at, b'b', &numbers)
 }
 
+// One of the sixteen.
+fn row_at(all: [Row; 16], at: usize) -> Row
+    requires { ⌜ at < 16 ⌝ }
+    ensures { λ r. ⌜ Takes all at freshRow r ⌝ }
+{
+    all[at]
+}
+
 fn put_bands(
     out: &mut [u8],
     start: usize,
@@ -139,7 +149,7 @@ fn put_bands(
     let mut at = start;
     let mut i = 0;
     while i < count {
-        let row = rows[i];
+        let row = row_at(rows, i);
         at = put_band(out, at, i, row, conditions);
         i += 1;
     }
@@ -161,6 +171,13 @@ fn put_sensor(out: &mut [u8], at: usize, number: usize, sensor: Sensor) -> usize
     put_line(out, at, b's', &numbers)
 }
 
+fn sensor_at(all: [Sensor; 16], at: usize) -> Sensor
+    requires { ⌜ at < 16 ⌝ }
+    ensures { λ r. ⌜ Takes all at freshSensor r ⌝ }
+{
+    all[at]
+}
+
 fn put_sensors(out: &mut [u8], start: usize, sensors: [Sensor; 16], count: usize) -> usize
     requires { ⌜ (Room (sensorLines sensors count) start (now out)) × (count ≤ 16) ⌝ }
     ensures { λ r. ⌜ Puts (sensorLines sensors count) (now (out .entry)) start r (now (out .exit)) ⌝ }
@@ -168,7 +185,7 @@ fn put_sensors(out: &mut [u8], start: usize, sensors: [Sensor; 16], count: usize
     let mut at = start;
     let mut i = 0;
     while i < count {
-        let sensor = sensors[i];
+        let sensor = sensor_at(sensors, i);
         at = put_sensor(out, at, i, sensor);
         i += 1;
     }

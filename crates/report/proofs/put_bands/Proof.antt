@@ -1,5 +1,5 @@
 use Rattle.report.proofs.Putting.{Listing, lines-begin, lines-room, lines-again, lines-done}
-use Rattle.report.proofs.Rows.{band-any}
+use Rattle.report.proofs.Rows.{band-there}
 use Rattle.report.specs.Listing.{bandLine}
 use Rattle.band.specs.Rows.{freshRow, valueIn}
 use Prim.Native.Nat.{_-_}
@@ -10,22 +10,19 @@ use Rattle.report.proofs.put_bands.Tie as tie
 use Rattle.report.proofs.put_band.Reads as put-band-reads
 
 abbrev Inv-loop : tie.InvT-loop
-Inv-loop out₀ start conditions count rows at₀ i₀ out at i = Listing (λ i. bandLine i (getD rows i freshRow) (valueIn conditions (getD rows i freshRow))) count out₀ at₀ out at i
+Inv-loop out₀ start rows conditions count at₀ i₀ out at i = Listing (λ i. bandLine i (getD rows i freshRow) (valueIn conditions (getD rows i freshRow))) count out₀ at₀ out at i
 
 abbrev μ-loop : tie.MeasureT-loop
-μ-loop out₀ start conditions count rows at₀ i₀ out at i = count - i
+μ-loop out₀ start rows conditions count at₀ i₀ out at i = count - i
 
 loop-holds : tie.Need-loop-holds Inv-loop μ-loop
 loop-holds c = search lines-begin
 
-mul-row : tie.Need-mul-row Inv-loop μ-loop
-mul-row c = search needs
-
-array-copy-out-row : tie.Need-array-copy-out-row Inv-loop μ-loop
-array-copy-out-row c = search needs
+row-at-requires : tie.Need-row-at-requires Inv-loop μ-loop
+row-at-requires c κs = search needs
 
 put-band-requires : tie.Need-put-band-requires Inv-loop μ-loop
-put-band-requires c κs = search (lines-room, band-any, needs)
+put-band-requires c κs = search (lines-room, band-there, needs)
 
 add-i : tie.Need-add-i Inv-loop μ-loop
 add-i c = search needs
@@ -34,7 +31,7 @@ loop-less : tie.Need-loop-less Inv-loop μ-loop
 loop-less c = search needs
 
 loop-again : tie.Need-loop-again Inv-loop μ-loop
-loop-again c = search (lines-again, band-any, needs)
+loop-again c = search (lines-again, band-there, needs)
 
 same-length : tie.Need-same-length Inv-loop μ-loop
 same-length c = search needs
@@ -49,8 +46,7 @@ put-bands-spec =
     Inv-loop
     μ-loop
     loop-holds
-    mul-row
-    array-copy-out-row
+    row-at-requires
     put-band-requires
     add-i
     loop-less

@@ -1,48 +1,38 @@
+use Rattle.report.proofs.Ran.{bad-room, bad-put, events-room, drive-room, run-put}
 use borrow.Author.Needs.{needs}
 use Rattle.report.proofs.put_run.Statement.{statement}
 use Rattle.report.proofs.put_run.Tie as tie
-use Rattle.report.proofs.put_run.Reads as reads
-use Rattle.report.proofs.put_run.Lts as lts
 use Rattle.answer.proofs.Answer.number.Reads as number-reads
 use Rattle.report.proofs.put_drive.Reads as put-drive-reads
 use Rattle.report.proofs.put_events.Reads as put-events-reads
 use Rattle.report.proofs.put_line.Reads as put-line-reads
 
--- src/lib.rt:196:8
 number-requires : tie.Need-number-requires
 number-requires c κs = search needs
 
--- src/lib.rt:198:39
 slice-aggregate-put-line : tie.Need-slice-aggregate-put-line
 slice-aggregate-put-line c = search needs
 
--- src/lib.rt:198:9
 put-line-requires : tie.Need-put-line-requires
-put-line-requires c κs = ?
+put-line-requires c κs = search bad-room
 
--- src/lib.rt:198:9
 same-length : tie.Need-same-length
 same-length c = search needs
 
--- src/lib.rt:198:9
 returns : tie.Need-returns
-returns c = ?
+returns c = search bad-put
 
--- src/lib.rt:201:9
 put-events-requires : tie.Need-put-events-requires
-put-events-requires c κs = ?
+put-events-requires c κs = search (events-room, needs)
 
--- src/lib.rt:202:5
 put-drive-requires : tie.Need-put-drive-requires
-put-drive-requires c κs = ?
+put-drive-requires c κs = search (drive-room, needs)
 
--- src/lib.rt:191:1
 same-length-2 : tie.Need-same-length-2
 same-length-2 c = search needs
 
--- src/lib.rt:191:1
 returns-2 : tie.Need-returns-2
-returns-2 c = ?
+returns-2 c = search run-put
 
 pub put-run-spec : {M : Type 1} → statement M
 put-run-spec =

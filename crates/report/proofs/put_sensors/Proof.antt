@@ -1,5 +1,5 @@
 use Rattle.report.proofs.Putting.{Listing, lines-begin, lines-room, lines-again, lines-done}
-use Rattle.report.proofs.Rows.{sensor-any}
+use Rattle.report.proofs.Rows.{sensor-there}
 use Rattle.report.specs.Listing.{sensorLine}
 use Rattle.sensor.specs.Single.{freshSensor}
 use Prim.Native.Nat.{_-_}
@@ -10,22 +10,19 @@ use Rattle.report.proofs.put_sensors.Tie as tie
 use Rattle.report.proofs.put_sensor.Reads as put-sensor-reads
 
 abbrev Inv-loop : tie.InvT-loop
-Inv-loop out₀ start count sensors at₀ i₀ out at i = Listing (λ i. sensorLine i (getD sensors i freshSensor)) count out₀ at₀ out at i
+Inv-loop out₀ start sensors count at₀ i₀ out at i = Listing (λ i. sensorLine i (getD sensors i freshSensor)) count out₀ at₀ out at i
 
 abbrev μ-loop : tie.MeasureT-loop
-μ-loop out₀ start count sensors at₀ i₀ out at i = count - i
+μ-loop out₀ start sensors count at₀ i₀ out at i = count - i
 
 loop-holds : tie.Need-loop-holds Inv-loop μ-loop
 loop-holds c = search lines-begin
 
-mul-sensor : tie.Need-mul-sensor Inv-loop μ-loop
-mul-sensor c = search needs
-
-array-copy-out-sensor : tie.Need-array-copy-out-sensor Inv-loop μ-loop
-array-copy-out-sensor c = search needs
+sensor-at-requires : tie.Need-sensor-at-requires Inv-loop μ-loop
+sensor-at-requires c κs = search needs
 
 put-sensor-requires : tie.Need-put-sensor-requires Inv-loop μ-loop
-put-sensor-requires c κs = search (lines-room, sensor-any, needs)
+put-sensor-requires c κs = search (lines-room, sensor-there, needs)
 
 add-i : tie.Need-add-i Inv-loop μ-loop
 add-i c = search needs
@@ -34,7 +31,7 @@ loop-less : tie.Need-loop-less Inv-loop μ-loop
 loop-less c = search needs
 
 loop-again : tie.Need-loop-again Inv-loop μ-loop
-loop-again c = search (lines-again, sensor-any, needs)
+loop-again c = search (lines-again, sensor-there, needs)
 
 same-length : tie.Need-same-length Inv-loop μ-loop
 same-length c = search needs
@@ -49,8 +46,7 @@ put-sensors-spec =
     Inv-loop
     μ-loop
     loop-holds
-    mul-sensor
-    array-copy-out-sensor
+    sensor-at-requires
     put-sensor-requires
     add-i
     loop-less
