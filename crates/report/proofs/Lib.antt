@@ -3,3 +3,4 @@ pub mod Putting
 pub mod Handing
 pub mod Rows
 pub mod Ran
+pub mod Timers
