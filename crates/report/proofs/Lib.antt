@@ -4,3 +4,4 @@ pub mod Handing
 pub mod Rows
 pub mod Ran
 pub mod Timers
+pub mod Short
