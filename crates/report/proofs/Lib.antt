@@ -5,3 +5,4 @@ pub mod Rows
 pub mod Ran
 pub mod Timers
 pub mod Short
+pub mod Whole

@@ -249,14 +249,28 @@ fn hand(bytes: &[u8], out: &mut [u8]) -> Listed
     }
 }
 
+// Lists a script by way of lent memory: a byte for each event in two buffers, and a page for the lines.
+fn list_by(
+    script: &[u8],
+    out: &mut [u8],
+    answers: &mut [u8],
+    stops: &mut [u8],
+    page: &mut [u8],
+) -> Listed
+    requires { ⌜ (32766 ≤ length (now answers)) × (32766 ≤ length (now stops)) × (426486 ≤ length (now page)) ⌝ }
+    ensures { λ r. ⌜ toldIn r (now (out .exit)) ≡ listOf (listing (readScript (now (script .entry)))) (now (out .entry)) ⌝ }
+{
+    let ran = run::run(script, 65_536, answers, stops);
+    let length = put_run(page, ran, answers, stops);
+    hand(&page[..length], out)
+}
+
 // Lists a script: document 01's listing into the lent output, from its start. A refusal leaves the output as it was.
 pub fn list(script: &[u8], out: &mut [u8]) -> Listed
     ensures { λ r. ⌜ toldIn r (now (out .exit)) ≡ listOf (listing (readScript (now (script .entry)))) (now (out .entry)) ⌝ }
 {
-    let mut answers = [0; 32_768];
-    let mut stops = [0; 32_768];
+    let mut answers = [0; 32_766];
+    let mut stops = [0; 32_766];
     let mut page = [0; MOST];
-    let ran = run::run(script, 65_536, &mut answers, &mut stops);
-    let length = put_run(&mut page, ran, &answers, &stops);
-    hand(&page[..length], out)
+    list_by(script, out, &mut answers, &mut stops, &mut page)
 }
