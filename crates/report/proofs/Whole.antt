@@ -24,8 +24,8 @@ use Rattle.report.specs.Listing.{lines, eventLine, eventLines, driveLine
 use Rattle.report.proofs.Short.{never-short}
 
 -- a buffer that is made anew has its length
-pub made-long : (m n : ℕ) → m ≤ n → m ≤ length {A = ℕ} (replicate n 0)
-made-long m n h = omega (arith, h, length-replicate {A = ℕ} n 0)
+pub made-long : (n : ℕ) → n ≤ length {A = ℕ} (replicate n 0)
+made-long n = omega (arith, length-replicate {A = ℕ} n 0)
 
 lines-same : (f g : ℕ → List ℕ) (n : ℕ) → ((i : ℕ) → i < n → f i ≡ g i) → lines f n ≡ lines g n
 unfolding lines
