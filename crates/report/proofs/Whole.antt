@@ -8,7 +8,7 @@ use lib.Dec.{leb}
 use lib.ListN.{length, getD, take, drop, replicate, length-append, length-replicate}
 use lib.Seq.{take-at}
 use borrow.Author.Tests.{le-leb}
-use Rattle.drive.specs.declared.Drive.{Drive}
+use Rattle.answer.specs.Numbers.{numberOf}
 use Rattle.drive.specs.State.{freshDrive, headerFits}
 use Rattle.drive.specs.Events.{Event, answerOf, stopsOf, runOf}
 use Rattle.reached.proofs.Headers.{run-header}
@@ -20,7 +20,7 @@ use Rattle.run.specs.Outcome.{along, answersOf, stopsIn, over, Outcome, outcome
 use Rattle.run.proofs.Going.{along-length}
 use Rattle.run.proofs.Whole.{all-taken, accepted-is}
 use Rattle.report.specs.declared.Listed.{Listed}
-use Rattle.report.specs.Listing.{lines, eventLine, eventLines, driveLines, listing, toldIn, listOf, Puts, Room, runLines, Sized}
+use Rattle.report.specs.Listing.{lines, eventLine, eventLines, driveLines, listing, Told, told, toldIn, listOf, Puts, Room, runLines, Sized}
 use Rattle.report.proofs.Short.{never-short}
 
 -- a buffer that is made anew has its length
@@ -118,3 +118,12 @@ module _ (s answers stops : List ℕ) (long : 32766 ≤ length answers) (wide : 
 
         pub script-listed : (lent after : List ℕ) (t : Listed) → toldIn t after ≡ listOf (take n page') lent → toldIn t after ≡ listOf (listing (readScript s)) lent
         script-listed lent after t h = h ∙ ap (λ (bytes : List ℕ). listOf bytes lent) page-holds
+
+abbrev answerIn : Told → ℕ
+answerIn (told answer n output) = answer
+
+-- an output of 426,486 bytes is never too short
+pub long-enough : (s lent after : List ℕ) (t : Listed) → toldIn t after ≡ listOf (listing (readScript s)) lent → 426486 ≤ length lent → numberOf (t .answer) ≡ 0
+long-enough s lent after t h k =
+    ap answerIn h ∙ ap (λ (b : Bool). answerIn (cond b (told 0 (length (listing (readScript s))) (over (listing (readScript s)) lent)) (told 11 0 lent)))
+    (le-leb (length (listing (readScript s))) (length lent) (omega (arith, k, never-short s)))

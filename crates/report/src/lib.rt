@@ -5,6 +5,7 @@ ghost use mathlib.Core.List.{[], _∷_};
 ghost use lib.ListN.{length};
 ghost use Rattle.base.specs.Lists.{oneIf};
 ghost use Rattle.base.specs.Spliced.{spliced};
+ghost use Rattle.answer.specs.Numbers.{numberOf};
 ghost use Rattle.sensor.specs.Single.{freshSensor};
 ghost use Rattle.band.specs.Rows.{freshRow, valueIn};
 ghost use Rattle.events.specs.Steps.{Takes};
@@ -268,6 +269,7 @@ fn list_by(
 // Lists a script: document 01's listing into the lent output, from its start. A refusal leaves the output as it was.
 pub fn list(script: &[u8], out: &mut [u8]) -> Listed
     ensures { λ r. ⌜ toldIn r (now (out .exit)) ≡ listOf (listing (readScript (now (script .entry)))) (now (out .entry)) ⌝ }
+    ensures enough { λ r. ⌜ (426486 ≤ length (now (out .entry)) → numberOf (r .answer) ≡ 0) ⌝ }
 {
     let mut answers = [0; 32_766];
     let mut stops = [0; 32_766];

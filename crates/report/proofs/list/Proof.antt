@@ -1,4 +1,4 @@
-use Rattle.report.proofs.Whole.{made-long}
+use Rattle.report.proofs.Whole.{made-long, long-enough}
 use borrow.Author.Needs.{needs}
 use Rattle.report.proofs.list.Statement.{statement}
 use Rattle.report.proofs.list.Tie as tie
@@ -20,7 +20,7 @@ same-length : tie.Need-same-length
 same-length c = search needs
 
 returns : tie.Need-returns
-returns c = search needs
+returns c = (search needs, search long-enough)
 
 pub list-spec : {M : Type 1} → statement M
 list-spec =
