@@ -1,19 +1,17 @@
 -- The lines of a drive and of a run, part after part.
-use mathlib.Core.Path.{_≡_, refl, sym, ap, _∙_}
+use mathlib.Core.Path.{_≡_, sym, _∙_}
 use mathlib.Core.Logic.{_≢_}
-use Prim.Native.Nat.{ℕ, _+_, _≤_, _<_}
+use Prim.Native.Nat.{ℕ, _+_}
 use native.Mathlib.Omega.{arith}
-use mathlib.Core.Bool.{Bool, cond}
+use mathlib.Core.Bool.{Bool}
 use mathlib.Core.List.{List, [], _∷_, _++_}
-use lib.Dec.{eqb}
 use lib.ListN.{length, length-append}
 use borrow.Author.Tests.{eq-eqb, ne-eqb}
-use Rattle.answer.specs.declared.Answer.{Answer}
 use Rattle.answer.specs.Numbers.{numberOf}
 use Rattle.drive.specs.declared.Drive.{Drive}
 use Rattle.drive.specs.State.{conditionsOf}
 use Rattle.run.specs.declared.Ran.{Ran}
-use Rattle.run.specs.Outcome.{Outcome, outcome, outcomeIn}
+use Rattle.run.specs.Outcome.{outcomeIn}
 use Rattle.report.specs.Listing.{line, badLine, eventLines, bandLines, sensorLines, driveLines, Puts, Room, runLines}
 use Rattle.report.proofs.Putting.{puts-both}
 

@@ -1,10 +1,10 @@
 -- How long a listing is at most: 13 bytes for each of 32,766 events, 11 for each of 16 bands and 22 for each of 16 sensors.
-use mathlib.Core.Path.{_≡_, refl, sym, ap, _∙_}
+use mathlib.Core.Path.{_≡_, refl}
 use Prim.Native.Nat.{ℕ, zero, suc, _+_, _*_, _≤_, _<_}
 use native.Mathlib.Nat.{suc-mul}
 use native.Mathlib.Omega.{arith}
 use mathlib.Core.Bool.{Bool, true, false, cond}
-use mathlib.Core.List.{List, [], _∷_, _++_}
+use mathlib.Core.List.{List, [], _∷_}
 use lib.Dec.{eqb, ltb}
 use lib.ListN.{length, getD, length-append}
 use borrow.Author.Tests.{ltb-true, ltb-false}
@@ -59,8 +59,19 @@ band-short i row v h =
     let a = oneIf (lockedOn Read row) in
     let b = oneIf (lockedOn Write row) in
     let c = oneIf v in
-    omega (arith, line-long 98 (i ∷ a ∷ b ∷ c ∷ []), field-long i (a ∷ b ∷ c ∷ []), field-long a (b ∷ c ∷ []), field-long b (c ∷ []), field-long c [], feed-long,
-      few-digits 1 i h, bit-long (lockedOn Read row), bit-long (lockedOn Write row), bit-long v)
+    omega (
+      arith,
+      line-long 98 (i ∷ a ∷ b ∷ c ∷ []),
+      field-long i (a ∷ b ∷ c ∷ []),
+      field-long a (b ∷ c ∷ []),
+      field-long b (c ∷ []),
+      field-long c [],
+      feed-long,
+      few-digits 1 i h,
+      bit-long (lockedOn Read row),
+      bit-long (lockedOn Write row),
+      bit-long v,
+    )
 
 phase-few : (p : Phase) → phaseNumber p < 10
 phase-few SS0 = omega arith
@@ -74,9 +85,21 @@ sensor-short i s h t =
     let a = oneIf (s .level) in
     let p = phaseNumber (s .phase) in
     let c = oneIf (s .condition) in
-    omega (arith, line-long 115 (i ∷ a ∷ p ∷ c ∷ s .timer ∷ []), field-long i (a ∷ p ∷ c ∷ s .timer ∷ []), field-long a (p ∷ c ∷ s .timer ∷ []), field-long p (c ∷ s .timer ∷ []),
-      field-long c (s .timer ∷ []), field-long (s .timer) [], feed-long, few-digits 1 i h, bit-long (s .level), few-digits 0 p (phase-few (s .phase)), bit-long (s .condition),
-      few-digits 9 (s .timer) t)
+    omega (
+      arith,
+      line-long 115 (i ∷ a ∷ p ∷ c ∷ s .timer ∷ []),
+      field-long i (a ∷ p ∷ c ∷ s .timer ∷ []),
+      field-long a (p ∷ c ∷ s .timer ∷ []),
+      field-long p (c ∷ s .timer ∷ []),
+      field-long c (s .timer ∷ []),
+      field-long (s .timer) [],
+      feed-long,
+      few-digits 1 i h,
+      bit-long (s .level),
+      few-digits 0 p (phase-few (s .phase)),
+      bit-long (s .condition),
+      few-digits 9 (s .timer) t,
+    )
 
 bad-short : (place : ℕ) → place < 100000 → length (badLine place) ≤ 8
 bad-short place h = omega (arith, line-long 102 (place ∷ []), field-long place [], feed-long, few-digits 4 place h)
@@ -190,7 +213,12 @@ module _ (capacity bands sensors : ℕ) (es : List Event) (fits : headerFits cap
         arith,
         length-append (eventLines (answersOf fresh es) (stopsIn fresh es) (length es)) (driveLines bands sensors d),
         length-append (bandLines (conditionsOf d) (d .rows) bands) (sensorLines (d .sensors) sensors),
-        e, b, s, few, h .few-bands, h .few-sensors,
+        e,
+        b,
+        s,
+        few,
+        h .few-bands,
+        h .few-sensors,
       )
 
 -- an output of 426,486 bytes is never too short

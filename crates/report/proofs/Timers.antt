@@ -1,11 +1,11 @@
 -- The timers of every drive that events reach: none exceeds the greatest timeout, and there are sixteen sensors.
-use mathlib.Core.Path.{_≡_, refl, sym, ap, _∙_}
-use Prim.Native.Nat.{ℕ, zero, suc, _-_, _≤_, _<_}
+use mathlib.Core.Path.{_≡_, refl, _∙_}
+use Prim.Native.Nat.{ℕ, zero, suc, _-_, _≤_}
 use native.Mathlib.Omega.{arith}
 use mathlib.Core.Bool.{Bool, true, false, cond, Bool·beq}
 use mathlib.Core.List.{List, [], _∷_, map}
 use lib.Dec.{eqb, ltb}
-use lib.ListN.{length, getD, replicate, length-map}
+use lib.ListN.{length, getD, length-map}
 use borrow.Author.Tests.{leb-true}
 use Rattle.base.specs.Columns.{named, within}
 use Rattle.base.specs.Rows.{modify}

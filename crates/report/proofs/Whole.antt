@@ -2,25 +2,24 @@
 use mathlib.Core.Path.{_≡_, refl, sym, ap, _∙_, subst}
 use Prim.Native.Nat.{ℕ, zero, suc, _+_, _≤_, _<_}
 use native.Mathlib.Omega.{arith}
-use mathlib.Core.Bool.{Bool, true, false, cond, _&&_}
+use mathlib.Core.Bool.{Bool, cond}
 use mathlib.Core.List.{List, [], _∷_, _++_}
-use lib.Dec.{leb}
 use lib.ListN.{length, getD, take, drop, replicate, length-append, length-replicate}
 use lib.Seq.{take-at}
 use borrow.Author.Tests.{le-leb}
 use Rattle.answer.specs.Numbers.{numberOf}
-use Rattle.drive.specs.State.{freshDrive, headerFits}
+use Rattle.drive.specs.State.{freshDrive}
 use Rattle.drive.specs.Events.{Event, answerOf, stopsOf, runOf}
 use Rattle.reached.proofs.Headers.{run-header}
 use Rattle.reached.proofs.Reaching.{fresh-reached}
 use Rattle.script.specs.Whole.{Script, accepted, bad, readScript}
 use Rattle.script.proofs.Few.{few-events}
 use Rattle.run.specs.declared.Ran.{Ran}
-use Rattle.run.specs.Outcome.{along, answersOf, stopsIn, over, Outcome, outcome, outcomeIn, refusedRun, runEvents, runScript}
+use Rattle.run.specs.Outcome.{answersOf, stopsIn, over, Outcome, outcome, outcomeIn, runEvents, runScript}
 use Rattle.run.proofs.Going.{along-length}
 use Rattle.run.proofs.Whole.{all-taken, accepted-is}
 use Rattle.report.specs.declared.Listed.{Listed}
-use Rattle.report.specs.Listing.{lines, eventLine, eventLines, driveLines, listing, Told, told, toldIn, listOf, Puts, Room, runLines, Sized}
+use Rattle.report.specs.Listing.{lines, eventLines, driveLines, listing, Told, told, toldIn, listOf, Puts, Room, runLines, Sized}
 use Rattle.report.proofs.Short.{never-short}
 
 -- a buffer that is made anew has its length
@@ -60,8 +59,10 @@ module _ (s answers stops : List ℕ) (long : 32766 ≤ length answers) (wide : 
         let fresh = freshDrive capacity bands sensors in
         let h = run-header capacity bands sensors es in
         let e : eventLines (over (answersOf fresh es) answers) (over (stopsIn fresh es) stops) (length es) ≡ eventLines (answersOf fresh es) (stopsIn fresh es) (length es) =
-        lines-same _ _ (length es) (λ i k. rw (getD-over (answersOf fresh es) answers i (omega (arith, k, along-length answerOf fresh es)),
-        getD-over (stopsIn fresh es) stops i (omega (arith, k, along-length stopsOf fresh es)))) in
+        lines-same _ _ (length es) (λ i k. rw (
+          getD-over (answersOf fresh es) answers i (omega (arith, k, along-length answerOf fresh es)),
+          getD-over (stopsIn fresh es) stops i (omega (arith, k, along-length stopsOf fresh es)),
+        )) in
         let d = runOf fresh es in
         let g : driveLines (d .«band_count») (d .«sensor_count») d ≡ driveLines bands sensors d =
         ap (λ (n : ℕ). driveLines n (d .«sensor_count») d) (h .1) ∙ ap (λ (n : ℕ). driveLines bands n d) (h .2) in

@@ -1,7 +1,7 @@
 // The listing of a script (document 01, 'Listing'): a line for each event, then for each band and each sensor, or the place of what is bad.
 ghost use mathlib.Core.Path.{_≡_};
 ghost use Prim.Native.Nat.{_≤_, _<_};
-ghost use mathlib.Core.List.{[], _∷_};
+ghost use mathlib.Core.List.{_∷_};
 ghost use lib.ListN.{length};
 ghost use Rattle.base.specs.Lists.{oneIf};
 ghost use Rattle.base.specs.Spliced.{spliced};

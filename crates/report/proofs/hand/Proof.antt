@@ -2,7 +2,6 @@ use Rattle.report.proofs.Handing.{too-short, handed}
 use borrow.Author.Needs.{needs}
 use Rattle.report.proofs.hand.Statement.{statement}
 use Rattle.report.proofs.hand.Tie as tie
-use Rattle.report.proofs.copy.Reads as copy-reads
 
 returns : tie.Need-returns
 returns c = search too-short

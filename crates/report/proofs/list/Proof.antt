@@ -2,7 +2,6 @@ use Rattle.report.proofs.Whole.{made-long, long-enough}
 use borrow.Author.Needs.{needs}
 use Rattle.report.proofs.list.Statement.{statement}
 use Rattle.report.proofs.list.Tie as tie
-use Rattle.report.proofs.list_by.Reads as list-by-reads
 
 slice-aggregate-list-by : tie.Need-slice-aggregate-list-by
 slice-aggregate-list-by c = search needs

@@ -3,9 +3,6 @@ use lib.Seq.{length-take-le}
 use borrow.Author.Needs.{needs}
 use Rattle.report.proofs.list_by.Statement.{statement}
 use Rattle.report.proofs.list_by.Tie as tie
-use Rattle.report.proofs.hand.Reads as hand-reads
-use Rattle.report.proofs.put_run.Reads as put-run-reads
-use Rattle.run.proofs.run.Reads as run-reads
 
 run-requires : tie.Need-run-requires
 run-requires c κs = search needs
@@ -14,7 +11,7 @@ put-run-requires : tie.Need-put-run-requires
 put-run-requires c κs = (search (ran-room, needs), search (ran-sized, needs))
 
 slice-reshare-prefix-hand : tie.Need-slice-reshare-prefix-hand
-slice-reshare-prefix-hand c = search (page-room, ran-room, needs)
+slice-reshare-prefix-hand c = search (page-room, needs)
 
 slice-aggregate-hand : tie.Need-slice-aggregate-hand
 slice-aggregate-hand c = search (length-take-le, page-room, needs)

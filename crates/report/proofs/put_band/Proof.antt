@@ -2,9 +2,6 @@ use Rattle.report.proofs.Rows.{band-room, band-put}
 use borrow.Author.Needs.{needs}
 use Rattle.report.proofs.put_band.Statement.{statement}
 use Rattle.report.proofs.put_band.Tie as tie
-use Rattle.band.proofs.Row.value.Reads as value-reads
-use Rattle.report.proofs.bit.Reads as bit-reads
-use Rattle.report.proofs.put_line.Reads as put-line-reads
 
 value-requires : tie.Need-value-requires
 value-requires c κs = search needs

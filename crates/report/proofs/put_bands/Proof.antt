@@ -7,7 +7,6 @@ use lib.ListN.{getD}
 use borrow.Author.Needs.{needs}
 use Rattle.report.proofs.put_bands.Statement.{statement}
 use Rattle.report.proofs.put_bands.Tie as tie
-use Rattle.report.proofs.put_band.Reads as put-band-reads
 
 abbrev Inv-loop : tie.InvT-loop
 Inv-loop out₀ start rows conditions count at₀ i₀ out at i = Listing (λ i. bandLine i (getD rows i freshRow) (valueIn conditions (getD rows i freshRow))) count out₀ at₀ out at i

@@ -2,9 +2,6 @@ use Rattle.report.proofs.Ran.{drive-first, drive-second, drive-put}
 use borrow.Author.Needs.{needs}
 use Rattle.report.proofs.put_drive.Statement.{statement}
 use Rattle.report.proofs.put_drive.Tie as tie
-use Rattle.drive.proofs.Drive.conditions.Reads as conditions-reads
-use Rattle.report.proofs.put_bands.Reads as put-bands-reads
-use Rattle.report.proofs.put_sensors.Reads as put-sensors-reads
 
 conditions-requires : tie.Need-conditions-requires
 conditions-requires c κs = search needs

@@ -5,7 +5,6 @@ use lib.ListN.{getD}
 use borrow.Author.Needs.{needs}
 use Rattle.report.proofs.put_events.Statement.{statement}
 use Rattle.report.proofs.put_events.Tie as tie
-use Rattle.report.proofs.put_event.Reads as put-event-reads
 
 abbrev Inv-loop : tie.InvT-loop
 Inv-loop out₀ answers stops count at₀ i₀ out at i = Listing (λ i. eventLine i (getD answers i 0) (getD stops i 0)) count out₀ at₀ out at i

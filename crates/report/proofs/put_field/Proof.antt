@@ -4,7 +4,6 @@ use mathlib.Core.Path.{_∙_}
 use borrow.Author.Needs.{needs}
 use Rattle.report.proofs.put_field.Statement.{statement}
 use Rattle.report.proofs.put_field.Tie as tie
-use Rattle.report.proofs.put_number.Reads as put-number-reads
 
 slice-write-out : tie.Need-slice-write-out
 slice-write-out c = search needs

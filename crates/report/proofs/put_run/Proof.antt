@@ -2,10 +2,6 @@ use Rattle.report.proofs.Ran.{bad-room, bad-put, events-room, drive-roo
 use borrow.Author.Needs.{needs}
 use Rattle.report.proofs.put_run.Statement.{statement}
 use Rattle.report.proofs.put_run.Tie as tie
-use Rattle.answer.proofs.Answer.number.Reads as number-reads
-use Rattle.report.proofs.put_drive.Reads as put-drive-reads
-use Rattle.report.proofs.put_events.Reads as put-events-reads
-use Rattle.report.proofs.put_line.Reads as put-line-reads
 
 number-requires : tie.Need-number-requires
 number-requires c κs = search needs

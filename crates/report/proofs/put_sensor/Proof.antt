@@ -2,9 +2,6 @@ use Rattle.report.proofs.Rows.{sensor-room, sensor-put}
 use borrow.Author.Needs.{needs}
 use Rattle.report.proofs.put_sensor.Statement.{statement}
 use Rattle.report.proofs.put_sensor.Tie as tie
-use Rattle.phases.proofs.Phase.number.Reads as number-reads
-use Rattle.report.proofs.bit.Reads as bit-reads
-use Rattle.report.proofs.put_line.Reads as put-line-reads
 
 bit-requires : tie.Need-bit-requires
 bit-requires c κs = search needs

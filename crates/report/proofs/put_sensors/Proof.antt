@@ -7,7 +7,6 @@ use lib.ListN.{getD}
 use borrow.Author.Needs.{needs}
 use Rattle.report.proofs.put_sensors.Statement.{statement}
 use Rattle.report.proofs.put_sensors.Tie as tie
-use Rattle.report.proofs.put_sensor.Reads as put-sensor-reads
 
 abbrev Inv-loop : tie.InvT-loop
 Inv-loop out₀ start sensors count at₀ i₀ out at i = Listing (λ i. sensorLine i (getD sensors i freshSensor)) count out₀ at₀ out at i
