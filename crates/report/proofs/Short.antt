@@ -203,7 +203,7 @@ module _ (capacity bands sensors : ℕ) (es : List Event) (fits : headerFits cap
       let h = fresh-reached capacity bands sensors fits .shaped .header in
       let t = fresh-drive-timed capacity bands sensors in
       let e : length (eventLines (answersOf fresh es) (stopsIn fresh es) (length es)) ≤ length es * 13 =
-      lines-short _ 13 (length es) (λ i k. event-short i (getD (answersOf fresh es) i 0) (getD (stopsIn fresh es) i 0) (omega (arith, k, few))
+      lines-short _ 13 (length es) (λ i k. event-short _ _ _ (omega (arith, k, few))
       (along-few answerOf 10 (omega arith) (λ x y z. answer-few x y) fresh es i t) (along-few stopsOf 100 (omega arith) stops-sixteen fresh es i t)) in
       let b : length (bandLines (conditionsOf d) (d .rows) bands) ≤ bands * 11 =
       lines-short _ 11 bands (λ i k. band-short i (getD (d .rows) i freshRow) (valueIn (conditionsOf d) (getD (d .rows) i freshRow)) (omega (arith, k, h .few-bands))) in

@@ -97,10 +97,10 @@ fn put_events(out: &mut [u8], answers: &[u8], stops: &[u8], count: usize) -> usi
     ensures { λ r. ⌜ Puts (eventLines (now (answers .entry)) (now (stops .entry)) count) (now (out .entry)) 0 r (now (out .exit)) ⌝ }
 {
     let mut at = 0;
-    let mut i = 0;
-    while i < count {
-        at = put_event(out, at, i, answers[i], stops[i]);
-        i += 1;
+    let mut index = 0;
+    while index < count {
+        at = put_event(out, at, index, answers[index], stops[index]);
+        index += 1;
     }
     at
 }

@@ -7,10 +7,10 @@ use Rattle.report.proofs.put_events.Statement.{statement}
 use Rattle.report.proofs.put_events.Tie as tie
 
 abbrev Inv-loop : tie.InvT-loop
-Inv-loop out₀ answers stops count at₀ i₀ out at i = Listing (λ i. eventLine i (getD answers i 0) (getD stops i 0)) count out₀ at₀ out at i
+Inv-loop out₀ answers stops count at₀ index₀ out at index = Listing (λ i. eventLine i (getD answers i 0) (getD stops i 0)) count out₀ at₀ out at index
 
 abbrev μ-loop : tie.MeasureT-loop
-μ-loop out₀ answers stops count at₀ i₀ out at i = count - i
+μ-loop out₀ answers stops count at₀ index₀ out at index = count - index
 
 loop-holds : tie.Need-loop-holds Inv-loop μ-loop
 loop-holds c = search lines-begin
@@ -24,8 +24,8 @@ shared-slice-read-put-event-2 c = search needs
 put-event-requires : tie.Need-put-event-requires Inv-loop μ-loop
 put-event-requires c κs = search (lines-room, needs)
 
-add-i : tie.Need-add-i Inv-loop μ-loop
-add-i c = search needs
+add-index : tie.Need-add-index Inv-loop μ-loop
+add-index c = search needs
 
 loop-less : tie.Need-loop-less Inv-loop μ-loop
 loop-less c = search needs
@@ -49,7 +49,7 @@ put-events-spec =
     shared-slice-read-put-event
     shared-slice-read-put-event-2
     put-event-requires
-    add-i
+    add-index
     loop-less
     loop-again
     same-length
