@@ -14,7 +14,8 @@ use mir.Val.{Fits}
 use borrow.Author.Tests.{ltb-true, ltb-false}
 use Rattle.base.specs.Spliced.{spliced}
 use Rattle.base.proofs.Spliced.{splice-twice, set-splice}
-use Rattle.report.specs.Listing.{decimal, fields, line, lines, Puts, Room}
+use Rattle.report.specs.Listing.{decimal, fields, line, lines}
+use Rattle.report.specs.Parts.{Puts, Room}
 use Rattle.report.proofs.Decimal.{decimal-one, decimal-more}
 
 pub puts-none : (d : List ℕ) (at : ℕ) → Puts [] d at at d

@@ -12,7 +12,8 @@ use Rattle.drive.specs.declared.Drive.{Drive}
 use Rattle.drive.specs.State.{conditionsOf}
 use Rattle.run.specs.declared.Ran.{Ran}
 use Rattle.run.specs.Outcome.{outcomeIn}
-use Rattle.report.specs.Listing.{line, badLine, eventLines, bandLines, sensorLines, driveLines, Puts, Room, runLines}
+use Rattle.report.specs.Listing.{line, badLine, eventLines, bandLines, sensorLines, driveLines}
+use Rattle.report.specs.Parts.{Puts, Room, runLines}
 use Rattle.report.proofs.Putting.{puts-both}
 
 -- two parts, one after the other, where there is room for both

@@ -12,7 +12,8 @@ use Rattle.sensor.specs.Single.{freshSensor}
 use Rattle.band.specs.declared.Row.{Row}
 use Rattle.band.specs.Rows.{freshRow, valueIn}
 use Rattle.events.specs.Steps.{Takes}
-use Rattle.report.specs.Listing.{line, bandLine, sensorLine, Puts, Room}
+use Rattle.report.specs.Listing.{line, bandLine, sensorLine}
+use Rattle.report.specs.Parts.{Puts, Room}
 
 module _ (number : ℕ) (row : Row) (conditions : List Bool) (value : Bool) (a b v : ℕ) (p : value ≡ valueIn conditions row) (q : a ≡ oneIf (row .«read_locked»))
     (r : b ≡ oneIf (row .«write_locked»)) (s : v ≡ oneIf value) where

@@ -19,7 +19,8 @@ use Rattle.run.specs.Outcome.{answersOf, stopsIn, over, Outcome, outcome, outco
 use Rattle.run.proofs.Going.{along-length}
 use Rattle.run.proofs.Whole.{all-taken, accepted-is}
 use Rattle.report.specs.declared.Listed.{Listed}
-use Rattle.report.specs.Listing.{lines, eventLines, driveLines, listing, Told, told, toldIn, listOf, Puts, Room, runLines, Sized}
+use Rattle.report.specs.Listing.{lines, eventLines, driveLines, listing, Told, told, toldIn, listOf}
+use Rattle.report.specs.Parts.{Puts, Room, runLines, Sized}
 use Rattle.report.proofs.Short.{never-short}
 
 -- a buffer that is made anew has its length

@@ -24,11 +24,8 @@ ghost use Rattle.report.specs.Listing.{
   listing,
   toldIn,
   listOf,
-  Puts,
-  Room,
-  runLines,
-  Sized,
 };
+ghost use Rattle.report.specs.Parts.{Puts, Room, runLines, Sized};
 use answer::Answer;
 use band::Row;
 use drive::Drive;
