@@ -3,21 +3,17 @@ use mathlib.Core.Path.{_≡_, refl, sym, ap, ap₂, _∙_}
 use Prim.Native.Nat.{ℕ, zero, suc}
 use mathlib.Core.Bool.{Bool, true, false, not, cond, _&&_, _||_, false≢true}
 use mathlib.Core.List.{List}
-use Rattle.base.proofs.Cases.{cond-true}
+use Rattle.base.proofs.Cases.{cond-true, neither}
 use Rattle.band.specs.declared.Side.{Side}
 use Rattle.band.specs.declared.Side.the-variants.{Read, Write}
 use Rattle.band.specs.declared.Row.{Row}
-use Rattle.band.specs.Rows.{freshRow, closedOn, openOn, valueIn, withLocked, lockUnder, settleRow, inSet, resetRow}
+use Rattle.band.specs.Rows.{freshRow, closedOn, openOn, isOpen, valueIn, withLocked, lockUnder, settleRow, inSet, resetRow}
 
 -- ---- what the code's arms come to
 
 pub settled : (cs : List Bool) (row r : Row) (v : Bool) → v ≡ valueIn cs row → r ≡ lockUnder v row → r ≡ settleRow cs row
 unfolding settleRow
 settled cs row r v e q = q ∙ ap (λ (x : Bool). lockUnder x row) e
-
-or-none : (a b : Bool) → (a || b) ≡ false → (a ≡ false) × (b ≡ false)
-or-none true b e = absurd (false≢true (sym e))
-or-none false b e = (refl, e)
 
 -- a side that is not open stays as it is
 shut : (locked enabled v : Bool) → (enabled && not locked) ≡ false → locked ≡ (locked || (enabled && v))
@@ -26,13 +22,16 @@ shut false true v e = absurd (false≢true (sym e))
 shut false false v e = refl
 
 -- a row with no open side stays as it is
-pub not-open : (cs : List Bool) (row : Row) (t : Bool) → t ≡ (openOn Read row || openOn Write row) → t ≡ false → row ≡ settleRow cs row
-unfolding settleRow
-not-open cs row t p e =
-    let h = or-none (openOn Read row) (openOn Write row) (sym p ∙ e) in
+shut-row : (v : Bool) (row : Row) → isOpen row ≡ false → row ≡ lockUnder v row
+shut-row v row e =
+    let h = neither (openOn Read row) (openOn Write row) e in
     ap₂ (λ (a b : Bool). withLocked a b row)
-    (shut (row .«read_locked») (row .«read_lock_enabled») (valueIn cs row) (h .0))
-    (shut (row .«write_locked») (row .«write_lock_enabled») (valueIn cs row) (h .1))
+    (shut (row .«read_locked») (row .«read_lock_enabled») v (h .0))
+    (shut (row .«write_locked») (row .«write_lock_enabled») v (h .1))
+
+pub not-open : (cs : List Bool) (row : Row) (t : Bool) → t ≡ isOpen row → t ≡ false → row ≡ settleRow cs row
+unfolding settleRow
+not-open cs row t p e = shut-row (valueIn cs row) row (sym p ∙ e)
 
 pub reset-locks : (type : ℕ) (row r : Row) (t : Bool) → t ≡ inSet (row .«lock_on_reset») type → t ≡ true → r ≡ lockUnder true row
     → r ≡ resetRow type row
@@ -52,6 +51,15 @@ pub closed-write : (row : Row) (side : Side) (t : Bool) → side ≡ Write → t
 closed-write row side t e q = q ∙ ap (λ (s : Side). closedOn s row) (sym e)
 
 -- ---- laws for the layers above
+
+-- a row with no open side is reset to itself
+pub shut-reset : (type : ℕ) (row : Row) → isOpen row ≡ false → resetRow type row ≡ row
+unfolding resetRow
+shut-reset type row e = go (inSet (row .«lock_on_reset») type)
+  where
+    go : (b : Bool) → cond b (lockUnder true row) row ≡ row
+    go true = sym (shut-row true row e)
+    go false = refl
 
 lock-again : (locked enabled v : Bool) → ((locked || (enabled && v)) || (enabled && v)) ≡ (locked || (enabled && v))
 lock-again true enabled v = refl

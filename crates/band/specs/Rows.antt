@@ -37,6 +37,10 @@ closedOn side row = enabledOn side row && lockedOn side row
 abbrev pub openOn : Side → Row → Bool
 openOn side row = enabledOn side row && not (lockedOn side row)
 
+-- some side is enabled and not locked yet
+abbrev pub isOpen : Row → Bool
+isOpen row = openOn Read row || openOn Write row
+
 -- the value of the row's expression under the sensors' conditions
 abbrev pub valueIn : List Bool → Row → Bool
 valueIn conditions row = valueOf conditions (elementsIn (row .expression))

@@ -7,7 +7,7 @@ ghost use Rattle.base.specs.Columns.{named, within};
 ghost use Rattle.band.specs.Rows.{
   freshRow,
   closedOn,
-  openOn,
+  isOpen,
   valueIn,
   withLocked,
   lockUnder,
@@ -120,9 +120,9 @@ impl Row {
         self.with_locked(read, write)
     }
 
-    // Whether some side is enabled and not locked: only then can settling change the row.
+    // Whether some side is enabled and not locked: only then can settling or a reset change the row.
     pub fn open(self) -> bool
-        ensures { λ r. ⌜ r ≡ (openOn Side.Read self || openOn Side.Write self) ⌝ }
+        ensures { λ r. ⌜ r ≡ isOpen self ⌝ }
     {
         let read = and(self.read_lock_enabled, negated(self.read_locked));
         let write = and(self.write_lock_enabled, negated(self.write_locked));

@@ -1,7 +1,8 @@
 // The locking rows of a drive (document 01, 'Bands'), by value: what settling and a reset make of all sixteen, and which are closed.
 ghost use mathlib.Core.Path.{_≡_};
 ghost use mathlib.Core.List.{map};
-ghost use Rattle.band.specs.Rows.{settleRow, resetRow, closedOn};
+ghost use Rattle.base.specs.Lists.{any};
+ghost use Rattle.band.specs.Rows.{settleRow, resetRow, closedOn, isOpen};
 use band::Row;
 use band::Side;
 
@@ -41,4 +42,17 @@ pub fn closed_sides(rows: [Row; 16], side: Side) -> [bool; 16]
         out[i] = row.closed(side);
     }
     out
+}
+
+// Whether some side of some row is enabled and not locked: only then can settling or a reset change a row.
+pub fn some_open(rows: [Row; 16]) -> bool
+    ensures { λ r. ⌜ r ≡ any isOpen rows ⌝ }
+{
+    for i in 0..16 {
+        let row = rows[i];
+        if row.open() {
+            return true;
+        }
+    }
+    false
 }

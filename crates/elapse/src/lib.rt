@@ -2,8 +2,9 @@
 ghost use mathlib.Core.Path.{_≡_};
 ghost use Prim.Native.Nat.{_<_};
 ghost use Rattle.base.specs.Lists.{oneIf};
-ghost use Rattle.drive.specs.State.{tickOf};
-ghost use Rattle.elapse.specs.Jumps.{jumpOf, Turns, Elapses};
+ghost use Rattle.base.specs.Ticks.{Turns};
+ghost use Rattle.drive.specs.State.{tickOf, stopNext};
+ghost use Rattle.elapse.specs.Jumps.{running, jumpOf, Elapses};
 use drive::Drive;
 
 // The drive after an elapse, and the elapse's stops.
@@ -41,7 +42,7 @@ fn jump(drive: Drive, k: u32) -> Drive
 // One tick, and the quiet ticks after it, of the `left` ticks that are to pass.
 fn turn_once(drive: Drive, left: u32) -> Turn
     requires { ⌜ 0 < left ⌝ }
-    ensures { λ r. ⌜ Turns left drive r ⌝ }
+    ensures { λ r. ⌜ Turns tickOf stopNext running left drive (r .drive) (r .left) (r .stops) ⌝ }
 {
     let before = drive.sensors;
     let stop = sensors::some_ends(before);

@@ -1,5 +1,5 @@
 -- What the arms of a transfer and of a geometry come to, over the values that their calls hand back.
-use mathlib.Core.Path.{_≡_, refl, sym, ap, _∙_}
+use mathlib.Core.Path.{_≡_, refl, sym, ap, _∙_, subst}
 use Prim.Native.Nat.{ℕ, _+_, _-_, _≤_, _<_}
 use native.Mathlib.Omega.{arith}
 use mathlib.Core.Bool.{Bool, true, false, cond}
@@ -12,6 +12,7 @@ use Rattle.answer.specs.declared.Answer.{Answer}
 use Rattle.answer.specs.declared.Answer.the-variants.{Done, Overlap}
 use Rattle.answer.specs.Numbers.{numberOf}
 use Rattle.geometry.specs.declared.Span.{Span}
+use Rattle.geometry.specs.declared.Placed.{Placed}
 use Rattle.geometry.specs.Blocks.{bandSpans, overlapping}
 use Rattle.geometry.specs.Events.{pastEnd, placed, placeAnswer, placeOf, Places, Allowed}
 use Rattle.geometry.proofs.Ranges.{neither}
@@ -35,10 +36,13 @@ module _ (capacity start count : ℕ) where
 -- a geometry's answer, and the spans that go with it
 
 module _ (capacity bands : ℕ) (spans : List Span) (band start length : ℕ) where
-  pub refused : (a : Answer) → numberOf a ≡ placeAnswer capacity bands spans band start length → eqb (numberOf a) 0 ≡ false
-      → Places capacity bands spans band start length (record { answer = a; spans = spans })
+  pub refused : (a : Answer) (r : Placed) → r ≡ record { answer = a; spans = spans }
+      → numberOf a ≡ placeAnswer capacity bands spans band start length → eqb (numberOf a) 0 ≡ false
+      → Places capacity bands spans band start length r
   unfolding placeOf
-  refused a e q = record { answer = e; after = cond-false _ _ _ _ (ap (λ (n : ℕ). eqb n 0) (sym e) ∙ q) refl }
+  refused a r f e q =
+      subst (Places capacity bands spans band start length) (sym f)
+      (record { answer = e; after = cond-false _ _ _ _ (ap (λ (n : ℕ). eqb n 0) (sym e) ∙ q) refl })
 
   done : 0 ≡ placeAnswer capacity bands spans band start length
       → Places capacity bands spans band start length (record { answer = Done; spans = placed spans band start length })
@@ -63,8 +67,8 @@ module _ (capacity bands : ℕ) (spans : List Span) (band start length : ℕ) wh
         let b : (start ≤ capacity) × (length ≤ capacity - start) = end-up-to capacity start length (sym ep ∙ q) in
         record { known = k; row = h; local = omega (arith, n); begins = b .0; ends = b .1 }
 
-    pub place-refused : t ≡ true → Places capacity bands spans band start length (record { answer = Overlap; spans = spans })
-    place-refused w = refused Overlap (cond-true _ _ _ _ (sym e ∙ w) refl ∙ sym (placing allowed)) refl
+    pub place-refused : (r : Placed) → r ≡ record { answer = Overlap; spans = spans } → t ≡ true → Places capacity bands spans band start length r
+    place-refused r f w = refused Overlap r f (cond-true _ _ _ _ (sym e ∙ w) refl ∙ sym (placing allowed)) refl
 
     pub place-done : t ≡ false
         → Places capacity bands spans band start length (record { answer = Done; spans = placed spans band start length })

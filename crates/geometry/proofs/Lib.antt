@@ -3,6 +3,7 @@ pub mod Covering
 pub mod Scans
 pub mod Sweeps
 pub mod Sharing
+pub mod Ordered
 pub mod Bands
 pub mod Arms
 pub mod Refusals

@@ -16,13 +16,13 @@ use Rattle.geometry.specs.Blocks.{covers, meetsOf, bandFrom, bandOf}
 use Rattle.geometry.specs.Runs.{Alike, OneBand, barsAt, Barred}
 
 -- the i-th of the first n spans, and what follows it
-tail-at : (l : List Span) (n i : ℕ) (z : Span) → length l ≡ 16 → i < 16 → i < n
+pub tail-at : (l : List Span) (n i : ℕ) (z : Span) → length l ≡ 16 → i < 16 → i < n
     → drop i (take n l) ≡ getD l i z ∷ drop (i + 1) (take n l)
 tail-at l n i z e h k =
     rw (add-one i)
     (drop-cons (take n l) i z (rw length-take (omega arith)) ∙ ap (λ (s : Span). s ∷ drop (suc i) (take n l)) (getD-take n l i z k))
 
-tail-end : (l : List Span) (n i : ℕ) → length l ≡ 16 → min n 16 ≤ i → drop i (take n l) ≡ []
+pub tail-end : (l : List Span) (n i : ℕ) → length l ≡ 16 → min n 16 ≤ i → drop i (take n l) ≡ []
 tail-end l n i e h = drop-of-length-le (take n l) {i = i} (rw length-take (omega arith))
 
 -- A test f of the first n spans that asks g of each span and those after it: those from the i-th on give the answer w.

@@ -41,7 +41,7 @@ either-met : (s t : Span) (l : List Span) (b : Bool) → meetsOf s t ≡ b → (
 either-met s t l true h e f = first-met s t l h
 either-met s t l false h e f = later-met s t l (f e)
 
-met-there : (s : Span) (l : List Span) → meetsAny s l ≡ true → Met s l
+pub met-there : (s : Span) (l : List Span) → meetsAny s l ≡ true → Met s l
 met-there s [] e = absurd (false≢true e)
 met-there s (t ∷ l) e = either-met s t l (meetsOf s t) refl e (met-there s l)
 

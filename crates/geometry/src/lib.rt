@@ -1,6 +1,6 @@
 // Where the bands lie, and which blocks a transfer touches (document 01, 'Geometry and transfers'). Nothing here goes from block to block.
 ghost use mathlib.Core.Path.{_≡_};
-ghost use mathlib.Core.Bool.{_&&_, _||_};
+ghost use mathlib.Core.Bool.{true, false, _&&_, _||_};
 ghost use Prim.Native.Nat.{_+_, _<_, min};
 ghost use lib.ListN.{take, drop};
 ghost use Rattle.answer.specs.Numbers.{numberOf};
@@ -226,8 +226,8 @@ fn meets_from(spans: [Span; 16], bands: usize, s: Span, first: usize) -> bool
     false
 }
 
-// Whether two bands share a block.
-fn overlap(spans: [Span; 16], bands: usize) -> bool
+// Whether two bands share a block: each band against those after it.
+fn some_meet(spans: [Span; 16], bands: usize) -> bool
     ensures { λ r. ⌜ r ≡ overlapping (bandSpans bands spans) ⌝ }
 {
     let mut i = 1;
@@ -244,6 +244,53 @@ fn overlap(spans: [Span; 16], bands: usize) -> bool
     false
 }
 
+// How many bands the array has of those that are counted.
+fn counted(bands: usize) -> usize
+    ensures { λ r. ⌜ r ≡ min bands 16 ⌝ }
+{
+    if bands < 16 { bands } else { 16 }
+}
+
+// Whether each band lies before all bands after it, as bands most often do: then no two share a block. From the last band on down; `low` is
+// where the bands so far start.
+fn rising(spans: [Span; 16], bands: usize) -> bool
+    ensures { λ r. ⌜ (r ≡ true → overlapping (bandSpans bands spans) ≡ false) ⌝ }
+{
+    let mut low: u64 = 18_446_744_073_709_551_615;
+    let mut i = counted(bands);
+    while 1 < i {
+        i -= 1;
+        let s = spans[i];
+        if 0 < s.length {
+            if low <= s.start {
+                return false;
+            }
+            if low - s.start < s.length {
+                return false;
+            }
+            low = s.start;
+        }
+    }
+    true
+}
+
+// Whether two bands share a block, most often with no pair of them looked at.
+fn overlap(spans: [Span; 16], bands: usize) -> bool
+    ensures { λ r. ⌜ r ≡ overlapping (bandSpans bands spans) ⌝ }
+{
+    if rising(spans, bands) {
+        return false;
+    }
+    some_meet(spans, bands)
+}
+
+// A refusal: the spans as they were.
+fn refusal(answer: Answer, spans: [Span; 16]) -> Placed
+    ensures { λ r. ⌜ r ≡ record { answer = answer; spans = spans } ⌝ }
+{
+    Placed { answer, spans }
+}
+
 // A geometry: the spans with the band's own in its new place, or the refusal and the spans as they were.
 pub fn place(
     capacity: u64,
@@ -256,38 +303,23 @@ pub fn place(
     ensures { λ r. ⌜ Places capacity bands spans band start length r ⌝ }
 {
     if 16 <= band {
-        return Placed {
-            answer: Answer::NoRow,
-            spans,
-        };
+        return refusal(Answer::NoRow, spans);
     }
     let at = band as usize;
     if bands <= at {
-        return Placed {
-            answer: Answer::NoRow,
-            spans,
-        };
+        return refusal(Answer::NoRow, spans);
     }
     if at == 0 {
-        return Placed {
-            answer: Answer::Global,
-            spans,
-        };
+        return refusal(Answer::Global, spans);
     }
     if past_end(capacity, start, length) {
-        return Placed {
-            answer: Answer::PastEnd,
-            spans,
-        };
+        return refusal(Answer::PastEnd, spans);
     }
     let old = spans;
     let mut next = old;
     next[at] = Span { start, length };
     if overlap(next, bands) {
-        return Placed {
-            answer: Answer::Overlap,
-            spans: old,
-        };
+        return refusal(Answer::Overlap, old);
     }
     Placed {
         answer: Answer::Done,

@@ -11,7 +11,7 @@ use lib.Seq.{drop-cons}
 use borrow.Author.Tests.{lt-ltb, le-ltb, eq-eqb, ne-eqb}
 use Rattle.numbers.specs.declared.Number.{Number}
 use Rattle.numbers.specs.declared.Number.the-variants.{Is, Bad}
-use Rattle.numbers.specs.Groups.{found, none, foundIn, prefixed, groupsFrom}
+use Rattle.numbers.specs.Groups.{found, none, foundIn, prefixed, groupsFrom, numberFrom}
 
 pub none-left : (left at : ℕ) (s : List ℕ) → left ≡ 0 → none ≡ groupsFrom left at s
 unfolding groupsFrom
@@ -33,6 +33,11 @@ pub last : (left at : ℕ) (s : List ℕ) (b : ℕ) → (left ≡ 0 → ⊥) →
     → found b (at + 1) ≡ groupsFrom left at (drop at s)
 last zero at s b n h e l = absurd (n refl)
 last (suc k) at s b n h e l = rw (at-byte k at s h, ← e, lt-ltb b 128 l)
+
+-- a number of one group
+pub alone : (at : ℕ) (s : List ℕ) (b : ℕ) → at < length s → b ≡ getD s at 0 → b < 128 → found b (at + 1) ≡ numberFrom at (drop at s)
+unfolding numberFrom
+alone at s b h e l = rw (drop-cons s at 0, ← e, lt-ltb b 128 l)
 
 pub further : (left at : ℕ) (s : List ℕ) (b : ℕ) (rest r : Number) → (left ≡ 0 → ⊥) → at < length s → b ≡ getD s at 0 → 128 ≤ b
     → foundIn rest ≡ groupsFrom (left - 1) (at + 1) (drop (at + 1) s) → foundIn r ≡ prefixed b (foundIn rest)

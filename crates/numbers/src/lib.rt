@@ -52,9 +52,15 @@ fn groups_at(bytes: &[u8], at: usize, left: usize) -> Number
     joined(group, rest)
 }
 
-// The number at a place of the bytes.
+// The number at a place of the bytes. Most have one group, and cost no call.
 pub fn number_at(bytes: &[u8], at: usize) -> Number
     ensures { λ r. ⌜ foundIn r ≡ numberAt (now (bytes .entry)) at ⌝ }
 {
+    if at < bytes.len() {
+        let first = wide(bytes[at]);
+        if first < 128 {
+            return Number::Is(first, at + 1);
+        }
+    }
     groups_at(bytes, at, 10)
 }

@@ -107,6 +107,10 @@ quietTicks-most n (s ∷ l) =
     (λ f. inr (or-right (eqb (s .timer - k) 1) _ f))
     (quietTicks-most (quietOf n s) l)
 
+-- they are among those that are left
+pub few-left : (m k : ℕ) (l : List Sensor) → k ≡ quietTicks m l → k ≤ m
+few-left m k l e = omega (arith, e, quietTicks-le m l)
+
 -- ---- stops use up running timers
 
 pub stop-uses : (l : List Sensor) → oneIf (any endsNext l) + count runs (map tickOf l) ≤ count runs l

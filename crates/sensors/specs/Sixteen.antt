@@ -1,9 +1,15 @@
 -- Document 01, 'Sensors': the sensors of a drive. Its array is a list here; all sixteen tick, whatever the header counts.
-use Prim.Native.Nat.{ℕ, zero, suc}
+use mathlib.Core.Path.{_≡_}
+use Prim.Native.Nat.{ℕ, zero, suc, _≤_}
 use mathlib.Core.Bool.{Bool, false}
-use mathlib.Core.List.{List, [], _∷_, foldl}
+use mathlib.Core.List.{List, [], _∷_, foldl, map}
+use Rattle.base.specs.Lists.{any}
+use Rattle.base.specs.Lists.{count as countOf}
+use Rattle.base.specs.Ticks.{ticks}
+use Rattle.base.specs.Ticks.{stops as stopsIn}
 use Rattle.sensor.specs.declared.single.Sensor.{Sensor}
-use Rattle.sensor.specs.Single.{quietOf}
+use Rattle.sensor.specs.Single.{tickOf, runs, endsNext, quietOf}
+use Rattle.sensors.specs.declared.Passed.{Passed}
 
 -- the ticks that pass before some timer ends, n at most
 unfoldable pub quietTicks : ℕ → List Sensor → ℕ
@@ -14,3 +20,10 @@ unfoldable pub conditionsBelow : ℕ → List Sensor → List Bool
 conditionsBelow n [] = []
 conditionsBelow zero (s ∷ l) = false ∷ conditionsBelow zero l
 conditionsBelow (suc n) (s ∷ l) = s .condition ∷ conditionsBelow n l
+
+-- What n ticks of the sensors hand back: the sensors after them and the count of their stops, "which is at most the number of timers running
+-- at its start".
+pub record Passes (n : ℕ) (l : List Sensor) (r : Passed) : Type 0 where
+  pub sensors : r .sensors ≡ ticks (map tickOf) n l
+  pub stops : r .stops ≡ stopsIn (map tickOf) (any endsNext) n l
+  pub few : r .stops ≤ countOf runs l

@@ -1,12 +1,27 @@
 // The sensors of a drive (document 01, 'Sensors'), by value: what a tick, a jump over quiet ticks and a power cycle make of all sixteen.
 ghost use mathlib.Core.Path.{_≡_};
+ghost use Prim.Native.Nat.{_<_};
 ghost use mathlib.Core.List.{map};
 ghost use Rattle.base.specs.Lists.{any, oneIf};
 ghost use Rattle.base.specs.Lists.{count as countOf};
+ghost use Rattle.base.specs.Ticks.{Turns};
 ghost use Rattle.sensor.specs.Single.{tickOf, loweredBy, powerCycleOf, runs, endsNext};
-ghost use Rattle.sensors.specs.Sixteen.{quietTicks, conditionsBelow};
+ghost use Rattle.sensors.specs.Sixteen.{quietTicks, conditionsBelow, Passes};
 use phases::Cause;
 use sensor::Sensor;
+
+// The sensors after some ticks, and the stops among these.
+pub struct Passed {
+    pub sensors: [Sensor; 16],
+    pub stops: u64,
+}
+
+// What one turn leaves to do, and its stops.
+struct Turn {
+    sensors: [Sensor; 16],
+    left: u32,
+    stops: u64,
+}
 
 // Each sensor after a tick.
 pub fn tick_all(sensors: [Sensor; 16]) -> [Sensor; 16]
@@ -69,6 +84,41 @@ pub fn quiet_ticks(sensors: [Sensor; 16], most: u32) -> u32
         n = s.quiet(n);
     }
     n
+}
+
+// One tick, and the quiet ticks after it, of the `left` ticks that are to pass.
+fn turn_once(sensors: [Sensor; 16], left: u32) -> Turn
+    requires { ⌜ 0 < left ⌝ }
+    ensures { λ r. ⌜ Turns (map tickOf) (any endsNext) (countOf runs) left sensors (r .sensors) (r .left) (r .stops) ⌝ }
+{
+    let stop = some_ends(sensors);
+    let ticked = tick_all(sensors);
+    let k = quiet_ticks(ticked, left - 1);
+    let next = lower_all(ticked, k);
+    Turn {
+        sensors: next,
+        left: left - 1 - k,
+        stops: one_if(stop) as u64,
+    }
+}
+
+// n ticks, in at most one turn more than there are stops.
+pub fn pass_all(sensors: [Sensor; 16], n: u32) -> Passed
+    ensures { λ r. ⌜ Passes n sensors r ⌝ }
+{
+    let mut next = sensors;
+    let mut left = n;
+    let mut stops: u64 = 0;
+    while 0 < left {
+        let t = turn_once(next, left);
+        next = t.sensors;
+        left = t.left;
+        stops += t.stops;
+    }
+    Passed {
+        sensors: next,
+        stops,
+    }
 }
 
 // How many timers run.

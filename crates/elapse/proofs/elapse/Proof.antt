@@ -1,14 +1,17 @@
 use borrow.Author.Needs.{needs}
-use Rattle.elapse.proofs.Turning.{Running, run-begin, run-again, run-done}
-use Rattle.elapse.specs.Jumps.{turnsLeft}
+use Rattle.base.specs.Ticks.{turnsLeft}
+use Rattle.base.proofs.Turns.{Running, run-begin, run-again}
+use Rattle.drive.specs.State.{tickOf, stopNext}
+use Rattle.elapse.specs.Jumps.{running}
+use Rattle.elapse.proofs.Turning.{run-done}
 use Rattle.elapse.proofs.elapse.Statement.{statement}
 use Rattle.elapse.proofs.elapse.Tie as tie
 
 abbrev Inv-loop : tie.InvT-loop
-Inv-loop n next₀ left₀ stops₀ next left stops = Running n next₀ next left stops
+Inv-loop n next₀ left₀ stops₀ next left stops = Running tickOf stopNext n next₀ next left stops
 
 abbrev μ-loop : tie.MeasureT-loop
-μ-loop n next₀ left₀ stops₀ next left stops = turnsLeft left next
+μ-loop n next₀ left₀ stops₀ next left stops = turnsLeft stopNext running left next
 
 loop-holds : tie.Need-loop-holds Inv-loop μ-loop
 loop-holds c = search run-begin

@@ -1,4 +1,5 @@
-use Rattle.elapse.proofs.Turning.{turned, few-left}
+use Rattle.sensors.proofs.Quiet.{few-left}
+use Rattle.elapse.proofs.Turning.{turned}
 use borrow.Author.Needs.{needs}
 use Rattle.elapse.proofs.turn_once.Statement.{statement}
 use Rattle.elapse.proofs.turn_once.Tie as tie

@@ -7,24 +7,36 @@ use borrow.Author.Needs.{needs}
 use Rattle.geometry.proofs.place.Statement.{statement}
 use Rattle.geometry.proofs.place.Tie as tie
 
+refusal-requires : tie.Need-refusal-requires
+refusal-requires c κs = search needs
+
 returns : tie.Need-returns
 unfolding placeAnswer
-returns c = refused _ _ _ _ _ _ _ (search (no-room, calls)) refl
+returns c = refused _ _ _ _ _ _ _ _ (c .refusal .ensures) (search (no-room, calls)) refl
+
+refusal-requires-2 : tie.Need-refusal-requires-2
+refusal-requires-2 c κs = search needs
 
 returns-2 : tie.Need-returns-2
 unfolding placeAnswer
-returns-2 c = refused _ _ _ _ _ _ _ (search (not-counted, calls)) refl
+returns-2 c = refused _ _ _ _ _ _ _ _ (c .refusal2 .ensures) (search (not-counted, calls)) refl
+
+refusal-requires-3 : tie.Need-refusal-requires-3
+refusal-requires-3 c κs = search needs
 
 returns-3 : tie.Need-returns-3
 unfolding placeAnswer
-returns-3 c = refused _ _ _ _ _ _ _ (search (is-row, calls)) refl
+returns-3 c = refused _ _ _ _ _ _ _ _ (c .refusal3 .ensures) (search (is-row, calls)) refl
 
 past-end-requires : tie.Need-past-end-requires
 past-end-requires c κs = search needs
 
+refusal-requires-4 : tie.Need-refusal-requires-4
+refusal-requires-4 c κs = search needs
+
 returns-4 : tie.Need-returns-4
 unfolding placeAnswer
-returns-4 c = refused _ _ _ _ _ _ _ (search (is-row, calls)) refl
+returns-4 c = refused _ _ _ _ _ _ _ _ (c .refusal4 .ensures) (search (is-row, calls)) refl
 
 mul-next : tie.Need-mul-next
 mul-next c = search needs
@@ -34,6 +46,9 @@ array-set-from-next c = search needs
 
 overlap-requires : tie.Need-overlap-requires
 overlap-requires c κs = search needs
+
+refusal-requires-5 : tie.Need-refusal-requires-5
+refusal-requires-5 c κs = search needs
 
 returns-5 : tie.Need-returns-5
 returns-5 c = search (place-refused, needs)
@@ -45,13 +60,18 @@ pub place-spec : {M : Type 1} → statement M
 place-spec =
     tie.close
     (tie.spec
+    refusal-requires
     returns
+    refusal-requires-2
     returns-2
+    refusal-requires-3
     returns-3
     past-end-requires
+    refusal-requires-4
     returns-4
     mul-next
     array-set-from-next
     overlap-requires
+    refusal-requires-5
     returns-5
     returns-6)

@@ -1,0 +1,38 @@
+use borrow.Author.Needs.{needs}
+use mathlib.Core.List.{map}
+use Rattle.base.specs.Lists.{any, count}
+use Rattle.base.specs.Ticks.{turnsLeft}
+use Rattle.base.proofs.Turns.{Running, run-begin, run-again}
+use Rattle.sensor.specs.Single.{tickOf, endsNext, runs}
+use Rattle.sensors.proofs.Passing.{run-done}
+use Rattle.sensors.proofs.pass_all.Statement.{statement}
+use Rattle.sensors.proofs.pass_all.Tie as tie
+
+abbrev Inv-loop : tie.InvT-loop
+Inv-loop n next₀ left₀ stops₀ next left stops = Running (map tickOf) (any endsNext) n next₀ next left stops
+
+abbrev μ-loop : tie.MeasureT-loop
+μ-loop n next₀ left₀ stops₀ next left stops = turnsLeft (any endsNext) (count runs) left next
+
+loop-holds : tie.Need-loop-holds Inv-loop μ-loop
+loop-holds c = search run-begin
+
+turn-once-requires : tie.Need-turn-once-requires Inv-loop μ-loop
+turn-once-requires c κs = search needs
+
+add-stops : tie.Need-add-stops Inv-loop μ-loop
+add-stops c = search needs
+
+loop-less : tie.Need-loop-less Inv-loop μ-loop
+loop-less c = search needs
+
+loop-again : tie.Need-loop-again Inv-loop μ-loop
+loop-again c = search run-again
+
+returns : tie.Need-returns Inv-loop μ-loop
+returns c = search (run-done, needs)
+
+pub pass-all-spec : {M : Type 1} → statement M
+pass-all-spec =
+    tie.close
+    (tie.spec Inv-loop μ-loop loop-holds turn-once-requires add-stops loop-less loop-again returns)
