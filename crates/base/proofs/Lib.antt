@@ -5,3 +5,4 @@ pub mod Jumps
 pub mod Turns
 pub mod Columns
 pub mod Rows
+pub mod Spliced

@@ -2,3 +2,4 @@ pub mod Lists
 pub mod Ticks
 pub mod Columns
 pub mod Rows
+pub mod Spliced

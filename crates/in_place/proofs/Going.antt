@@ -283,7 +283,7 @@ loop-bad s start count fresh answers₀ stops₀ d answers stops at i o r g h e 
 
 -- ---- the stops fit in a byte
 
-few-counted : {A : Type 0} (p : A → Bool) (l : List A) → count p l ≤ length l
+pub few-counted : {A : Type 0} (p : A → Bool) (l : List A) → count p l ≤ length l
 unfolding count
 few-counted p [] = omega arith
 few-counted p (x ∷ l) = omega (arith, one (p x), few-counted p l)

@@ -8,7 +8,9 @@ use lib.Dec.{ltb, eqb}
 use lib.ListN.{length, take}
 use lib.Seq.{length-take-le, take-all}
 use borrow.Author.Tests.{lt-ltb, le-ltb, not-true, not-false}
+use Rattle.base.specs.Spliced.{spliced}
 use Rattle.base.proofs.Cases.{cond-true, cond-false}
+use Rattle.base.proofs.Spliced.{splice-twice}
 use Rattle.answer.specs.declared.Answer.{Answer}
 use Rattle.answer.specs.declared.Answer.the-variants.{Done, OutOfRange, TooLong, ShortBuffer}
 use Rattle.answer.specs.Numbers.{numberOf}
@@ -27,13 +29,11 @@ use Rattle.token_writer.specs.Write.{
   partBytes,
   bytesOf,
   neededFor,
-  spliced,
   writeAnswer,
   outputAfter,
   writtenAfter,
   Writes,
 }
-use Rattle.token_writer.proofs.Spliced.{splice-twice}
 use Rattle.token_writer.proofs.RoundTrip.{needed-is}
 
 pub code-operator : (p : Part) (n : ℕ) → p ≡ Operator n → 4294967296 + n ≡ codeOf p

@@ -8,6 +8,7 @@ use lib.Dec.{eqb, ltb}
 use lib.ListN.{length, getD, take, drop, replicate, length-map}
 use lib.Seq.{take-append-seam}
 use borrow.Author.Tests.{le-ltb}
+use Rattle.base.specs.Spliced.{spliced}
 use Rattle.answer.specs.Numbers.{numberOf}
 use Rattle.expression.specs.declared.Element.{Element}
 use Rattle.expression.specs.Elements.{blank, elementsIn, expressionOf, AllFit}
@@ -18,7 +19,7 @@ use Rattle.token_reader.specs.Format.{Bytes, widthOf, partIn, isEnd}
 use Rattle.token_reader.specs.Read.{Outcome, elements, refusal, before, andThen, readElements, readList, readTokens, answerIn, expressionIn, Reads}
 use Rattle.token_reader.proofs.Fits.{read-fits}
 use Rattle.token_writer.specs.declared.Written.{Written}
-use Rattle.token_writer.specs.Write.{codesOf, bytesOf, neededFor, writeAnswer, spliced, Writes}
+use Rattle.token_writer.specs.Write.{codesOf, bytesOf, neededFor, writeAnswer, Writes}
 use Rattle.token_writer.proofs.RoundTrip.{needed-is, codes-back, codes-fit, tokens-written, written-read}
 
 -- the bytes are written, and nothing is refused

@@ -1,4 +1,3 @@
-pub mod Spliced
 pub mod Passes
 pub mod Arms
 pub mod RoundTrip

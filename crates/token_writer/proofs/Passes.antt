@@ -13,12 +13,13 @@ use lib.Seq.{drop-cons}
 use mir.Syntax.{w64}
 use mir.Val.{Fits}
 use borrow.Author.Tests.{le-leb, lt-leb, leb-true}
+use Rattle.base.specs.Spliced.{spliced}
+use Rattle.base.proofs.Spliced.{splice-twice, set-splice}
 use Rattle.expression.specs.declared.Part.{Part}
 use Rattle.expression.specs.declared.Part.the-variants.{Reference, Operator}
 use Rattle.token_reader.specs.Format.{widthOf}
 use Rattle.token_reader.proofs.Listing.{width-most}
-use Rattle.token_writer.specs.Write.{partOf, codesFit, elementsOf, partBytes, bodyOf, bytesOf, neededFor, spliced}
-use Rattle.token_writer.proofs.Spliced.{splice-twice, set-splice}
+use Rattle.token_writer.specs.Write.{partOf, codesFit, elementsOf, partBytes, bodyOf, bytesOf, neededFor}
 
 -- the numbers from place i on
 rest : (codes : List ℕ) (i : ℕ) → i < length codes → drop i codes ≡ getD codes i 0 ∷ drop (i + 1) codes

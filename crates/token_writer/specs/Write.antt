@@ -5,7 +5,8 @@ use mathlib.Core.Path.{_≡_}
 use mathlib.Core.Bool.{Bool, true, cond, _&&_}
 use mathlib.Core.List.{List, [], _∷_, _++_, map}
 use lib.Dec.{eqb, leb, ltb}
-use lib.ListN.{length, take, drop}
+use lib.ListN.{length}
+use Rattle.base.specs.Spliced.{spliced}
 use Rattle.answer.specs.Numbers.{numberOf}
 use Rattle.expression.specs.declared.Part.{Part}
 use Rattle.expression.specs.declared.Part.the-variants.{Reference, Operator}
@@ -56,10 +57,6 @@ neededFor (e ∷ es) = widthOf (e .part) + neededFor es
 unfoldable pub writeAnswer : List ℕ → ℕ → ℕ
 writeAnswer codes room =
     cond (codesFit codes) (cond (ltb 32 (length codes)) 4 (cond (ltb room (length (bytesOf (elementsOf codes)))) 11 0)) 2
-
--- the output with other bytes from a place on
-abbrev pub spliced : List ℕ → ℕ → List ℕ → List ℕ
-spliced out at bytes = take at out ++ bytes ++ drop (at + length bytes) out
 
 -- by the answer's number: the bytes from the start of the output and the rest as it was, or all as it was
 abbrev pub outputAfter : ℕ → List ℕ → List ℕ → List ℕ

@@ -3,6 +3,7 @@ ghost use mathlib.Core.Path.{_≡_};
 ghost use mathlib.Core.Bool.{true};
 ghost use Prim.Native.Nat.{_+_, _≤_};
 ghost use lib.ListN.{length};
+ghost use Rattle.base.specs.Spliced.{spliced};
 ghost use Rattle.expression.specs.Elements.{elementsIn};
 ghost use Rattle.token_reader.specs.Format.{widthOf};
 ghost use Rattle.token_writer.specs.Write.{
@@ -14,7 +15,6 @@ ghost use Rattle.token_writer.specs.Write.{
   partBytes,
   bytesOf,
   neededFor,
-  spliced,
   Writes,
 };
 use answer::Answer;

@@ -1,0 +1,132 @@
+-- The listing of a script from its run.
+use mathlib.Core.Path.{_≡_, refl, sym, ap, _∙_, subst}
+use Prim.Native.Nat.{ℕ, zero, suc, _+_, _≤_, _<_}
+use native.Mathlib.Omega.{arith}
+use mathlib.Core.Bool.{Bool, cond}
+use mathlib.Core.List.{List, [], _∷_, _++_}
+use lib.ListN.{length, getD, take, drop, replicate, length-append, length-replicate}
+use lib.Seq.{take-at}
+use borrow.Author.Tests.{le-leb}
+use Rattle.answer.specs.Numbers.{numberOf}
+use Rattle.drive.specs.State.{freshDrive}
+use Rattle.drive.specs.Events.{Event, answerOf, stopsOf, runOf}
+use Rattle.reached.proofs.Headers.{run-header}
+use Rattle.reached.proofs.Reaching.{fresh-reached}
+use Rattle.script.specs.Whole.{Script, accepted, bad, readScript}
+use Rattle.script.proofs.Few.{few-events}
+use Rattle.run.specs.declared.Ran.{Ran}
+use Rattle.in_place.specs.Course.{answersOf, stopsIn, over}
+use Rattle.run.specs.Outcome.{Outcome, outcome, outcomeIn, runEvents, runScript}
+use Rattle.in_place.proofs.Going.{along-length}
+use Rattle.run.proofs.Whole.{all-taken, accepted-is}
+use Rattle.report.specs.declared.Listed.{Listed}
+use Rattle.report.specs.Listing.{lines, eventLines, driveLines, listing, Told, told, toldIn, listOf}
+use Rattle.report.specs.Parts.{Puts, Room, runLines, Sized}
+use Rattle.report.proofs.Short.{never-short}
+
+-- a buffer that is made anew has its length
+pub made-long : (n : ℕ) → n ≤ length {A = ℕ} (replicate n 0)
+made-long n = omega (arith, length-replicate {A = ℕ} n 0)
+
+lines-same : (f g : ℕ → List ℕ) (n : ℕ) → ((i : ℕ) → i < n → f i ≡ g i) → lines f n ≡ lines g n
+unfolding lines
+lines-same f g zero h = refl
+lines-same f g (suc n) h = rw (lines-same f g n (λ i k. h i (omega (arith, k))), h n (omega arith))
+
+getD-over : (bytes lent : List ℕ) (i : ℕ) → i < length bytes → getD (over bytes lent) i 0 ≡ getD bytes i 0
+getD-over bytes lent i h = front bytes (drop (length bytes) lent) i h
+  where
+    front : (a b : List ℕ) (i : ℕ) → i < length a → getD (a ++ b) i 0 ≡ getD a i 0
+    front [] b i h = absurd (omega (arith, h))
+    front (x ∷ a) b zero h = refl
+    front (x ∷ a) b (suc i) h = front a b i (omega (arith, h))
+
+abbrev sizedIn : Outcome → Type 0
+sizedIn (outcome answer place count drive answers stops) = Sized count drive answers stops
+
+module _ (s answers stops : List ℕ) (long : 32766 ≤ length answers) (wide : 32766 ≤ length stops) where
+  -- a script that reads to its end is run whole
+  module _ (capacity bands sensors : ℕ) (es : List Event) (q : readScript s ≡ accepted capacity bands sensors es) where
+    whole : runScript (accepted capacity bands sensors es) 65536 answers stops
+        ≡ outcome 0 0 (length es) (runOf (freshDrive capacity bands sensors) es) (over (answersOf (freshDrive capacity bands sensors) es) answers)
+        (over (stopsIn (freshDrive capacity bands sensors) es) stops)
+    whole =
+        let few = few-events s capacity bands sensors es q in
+        ap (λ (l : List Event). runEvents (freshDrive capacity bands sensors) l answers stops) (all-taken 65536 es (omega (arith, few)))
+        ∙ rw (le-leb (length es) (length answers) (omega (arith, few, long)), le-leb (length es) (length stops) (omega (arith, few, wide)))
+
+    accepted-lines : runLines (runScript (accepted capacity bands sensors es) 65536 answers stops) ≡ listing (accepted capacity bands sensors es)
+    unfolding listing
+    accepted-lines =
+        let fresh = freshDrive capacity bands sensors in
+        let h = run-header capacity bands sensors es in
+        let e : eventLines (over (answersOf fresh es) answers) (over (stopsIn fresh es) stops) (length es) ≡ eventLines (answersOf fresh es) (stopsIn fresh es) (length es) =
+        lines-same _ _ (length es) (λ i k. rw (
+          getD-over (answersOf fresh es) answers i (omega (arith, k, along-length answerOf fresh es)),
+          getD-over (stopsIn fresh es) stops i (omega (arith, k, along-length stopsOf fresh es)),
+        )) in
+        let d = runOf fresh es in
+        let g : driveLines (d .«band_count») (d .«sensor_count») d ≡ driveLines bands sensors d =
+        ap (λ (n : ℕ). driveLines n (d .«sensor_count») d) (h .1) ∙ ap (λ (n : ℕ). driveLines bands n d) (h .2) in
+        ap runLines whole ∙ (λ i. e i ++ g i)
+
+    accepted-sized : sizedIn (runScript (accepted capacity bands sensors es) 65536 answers stops)
+    unfolding freshDrive
+    accepted-sized =
+        let fresh = freshDrive capacity bands sensors in
+        let h = run-header capacity bands sensors es in
+        let r = fresh-reached capacity bands sensors (accepted-is s capacity bands sensors es q .fits) .shaped .header in
+        subst sizedIn (sym whole) (record {
+          few-bands = omega (arith, h .1, r .few-bands);
+          few-sensors = omega (arith, h .2, r .few-sensors);
+          long = omega (arith, length-append (answersOf fresh es) (drop (length (answersOf fresh es)) answers), along-length answerOf fresh es);
+          wide = omega (arith, length-append (stopsIn fresh es) (drop (length (stopsIn fresh es)) stops), along-length stopsOf fresh es);
+        })
+
+  script-lines : runLines (runScript (readScript s) 65536 answers stops) ≡ listing (readScript s)
+  unfolding listing
+  script-lines = go (readScript s) refl
+    where
+      go : (o : Script) → readScript s ≡ o → runLines (runScript o 65536 answers stops) ≡ listing o
+      go (accepted capacity bands sensors es) q = accepted-lines capacity bands sensors es q
+      go (bad place) q = refl
+
+  script-sized : sizedIn (runScript (readScript s) 65536 answers stops)
+  unfolding freshDrive
+  script-sized = go (readScript s) refl
+    where
+      go : (o : Script) → readScript s ≡ o → sizedIn (runScript o 65536 answers stops)
+      go (accepted capacity bands sensors es) q = accepted-sized capacity bands sensors es q
+      go (bad place) q = record { few-bands = omega arith; few-sensors = omega arith; long = omega arith; wide = omega arith }
+
+  module _ (r : Ran) (answers' stops' : List ℕ) (e : outcomeIn r answers' stops' ≡ runScript (readScript s) 65536 answers stops) where
+    pub ran-sized : Sized (r .count) (r .drive) answers' stops'
+    ran-sized = subst sizedIn (sym e) script-sized
+
+    ran-lines : runLines (outcomeIn r answers' stops') ≡ listing (readScript s)
+    ran-lines = ap runLines e ∙ script-lines
+
+    module _ (page : List ℕ) (enough : 426486 ≤ length page) where
+      pub ran-room : Room (runLines (outcomeIn r answers' stops')) 0 page
+      ran-room = omega (arith, enough, never-short s, ap length ran-lines)
+
+      module _ (page' : List ℕ) (n : ℕ) (p : Puts (runLines (outcomeIn r answers' stops')) page 0 n page') where
+        pub page-room : length page' ≡ length page → n ≤ length page'
+        page-room l = omega (arith, ran-room, p .place, l)
+
+        page-holds : take n page' ≡ listing (readScript s)
+        page-holds =
+            let k : length (runLines (outcomeIn r answers' stops')) ≡ n = omega (arith, p .place) in
+            ap (take n) (p .output) ∙ take-at (runLines (outcomeIn r answers' stops')) (drop (0 + length (runLines (outcomeIn r answers' stops'))) page) n k ∙ ran-lines
+
+        pub script-listed : (lent after : List ℕ) (t : Listed) → toldIn t after ≡ listOf (take n page') lent → toldIn t after ≡ listOf (listing (readScript s)) lent
+        script-listed lent after t h = h ∙ ap (λ (bytes : List ℕ). listOf bytes lent) page-holds
+
+abbrev answerIn : Told → ℕ
+answerIn (told answer n output) = answer
+
+-- an output of 426,486 bytes is never too short
+pub long-enough : (s lent after : List ℕ) (t : Listed) → toldIn t after ≡ listOf (listing (readScript s)) lent → 426486 ≤ length lent → numberOf (t .answer) ≡ 0
+long-enough s lent after t h k =
+    ap answerIn h ∙ ap (λ (b : Bool). answerIn (cond b (told 0 (length (listing (readScript s))) (over (listing (readScript s)) lent)) (told 11 0 lent)))
+    (le-leb (length (listing (readScript s))) (length lent) (omega (arith, k, never-short s)))
