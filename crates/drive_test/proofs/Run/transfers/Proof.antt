@@ -1,8 +1,8 @@
 use borrow.Author.Needs.{needs}
 use Prim.Native.Nat.{_≤_, _-_}
 use lib.ListN.{length}
-use Rattle.test_run.proofs.Run.transfers.Statement.{statement}
-use Rattle.test_run.proofs.Run.transfers.Tie as tie
+use Rattle.drive_test.proofs.Run.transfers.Statement.{statement}
+use Rattle.drive_test.proofs.Run.transfers.Tie as tie
 
 abbrev Inv-loop : tie.InvT-loop
 Inv-loop direction list r₀ i₀ r i = i ≤ length list

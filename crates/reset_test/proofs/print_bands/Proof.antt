@@ -1,7 +1,7 @@
 use borrow.Author.Needs.{needs}
 use Prim.Native.Nat.{_≤_, _-_}
-use Rattle.test_run.proofs.print_bands.Statement.{statement}
-use Rattle.test_run.proofs.print_bands.Tie as tie
+use Rattle.reset_test.proofs.print_bands.Statement.{statement}
+use Rattle.reset_test.proofs.print_bands.Tie as tie
 
 abbrev Inv-loop : tie.InvT-loop
 Inv-loop drive conditions rows i₀ i = i ≤ 16

@@ -1,7 +1,7 @@
 use borrow.Author.Needs.{needs}
 use Prim.Native.Nat.{_≤_, _-_}
-use Rattle.test_run.proofs.print_sensors.Statement.{statement}
-use Rattle.test_run.proofs.print_sensors.Tie as tie
+use Rattle.drive_test.proofs.print_sensors.Statement.{statement}
+use Rattle.drive_test.proofs.print_sensors.Tie as tie
 
 abbrev Inv-loop : tie.InvT-loop
 Inv-loop drive all i₀ i = i ≤ 16
