@@ -1,14 +1,33 @@
 // The functions that programs in other languages link: numbers and slices of numbers, and every result a number. A result beside the
 // answer is written through a `&mut` of its own.
 ghost use mathlib.Core.Path.{_≡_};
+ghost use Prim.Native.Nat.{_≤_};
+ghost use lib.ListN.{length, getD};
+ghost use Rattle.drive.specs.Events.{eventOf};
 ghost use Rattle.script.specs.Whole.{readScript};
 ghost use Rattle.run.specs.Outcome.{runScript};
 ghost use Rattle.base.specs.Spliced.{spliced};
 ghost use Rattle.token_reader.specs.Read.{readTokens};
 ghost use Rattle.report.specs.Listing.{told, listing, listOf};
 ghost use Rattle.report.specs.Parts.{Room};
-ghost use Rattle.api.specs.Exports.{ranTo, runTold, readInto, writeInto, freshTo, freshTold};
+ghost use Rattle.api.specs.Exports.{
+  ranTo,
+  runTold,
+  readInto,
+  writeInto,
+  freshTo,
+  freshTold,
+  sensorColumns,
+  bandColumns,
+  kindOf,
+  answered,
+  eventOn,
+  eventTold,
+};
+use band::BandColumns;
 use drive::Drive;
+use drive::Kind;
+use sensor::SensorColumns;
 
 // The listing of a script, from the output's start, and its length.
 #[no_mangle]
@@ -117,4 +136,124 @@ pub extern "C" fn drive_fresh(
     *sensor_count = drive.sensor_count;
     let answer = fresh.answer;
     answer.number()
+}
+
+// A number of a list, 0 past its end.
+fn field(fields: &[u64], at: usize) -> u64
+    ensures { λ r. ⌜ r ≡ getD (now (fields .entry)) at 0 ⌝ }
+{
+    if at < fields.len() {
+        return fields[at];
+    }
+    0
+}
+
+fn sensor_columns(fields: &[u64]) -> SensorColumns
+    ensures { λ r. ⌜ r ≡ sensorColumns (now (fields .entry)) ⌝ }
+{
+    SensorColumns {
+        mask: field(fields, 1),
+        enabled: field(fields, 2),
+        on_threshold: field(fields, 3),
+        on_fraction: field(fields, 4),
+        on_timeout: field(fields, 5),
+        off_threshold: field(fields, 6),
+        off_fraction: field(fields, 7),
+        off_timeout: field(fields, 8),
+    }
+}
+
+fn band_columns(fields: &[u64]) -> BandColumns
+    ensures { λ r. ⌜ r ≡ bandColumns (now (fields .entry)) ⌝ }
+{
+    BandColumns {
+        mask: field(fields, 1),
+        read_lock_enabled: field(fields, 2),
+        write_lock_enabled: field(fields, 3),
+        read_locked: field(fields, 4),
+        write_locked: field(fields, 5),
+        lock_on_reset: field(fields, 6),
+    }
+}
+
+// The event of a kind: 1 to 6, or else a transfer.
+fn kind_of(kind: u64, fields: &[u64]) -> Kind
+    ensures { λ r. ⌜ r ≡ kindOf kind (now (fields .entry)) ⌝ }
+{
+    let first = field(fields, 0);
+    let second = field(fields, 1);
+    let third = field(fields, 2);
+    if kind == 1 {
+        return Kind::Reading(first, second);
+    }
+    if kind == 2 {
+        return Kind::Elapse(first);
+    }
+    if kind == 3 {
+        return Kind::Reset(first);
+    }
+    if kind == 4 {
+        let columns = sensor_columns(fields);
+        return Kind::SensorSet(first, columns);
+    }
+    if kind == 5 {
+        let columns = band_columns(fields);
+        return Kind::BandSet(first, columns);
+    }
+    if kind == 6 {
+        return Kind::Geometry(first, second, third);
+    }
+    Kind::Transfer(first, second, third)
+}
+
+// One event on the drive that a script leaves, by way of lent memory: a byte for each of the script's events in two buffers.
+fn event_by(
+    script: &[u8],
+    kind: Kind,
+    tokens: &[u8],
+    stops: &mut u64,
+    answers: &mut [u8],
+    counts: &mut [u8],
+) -> u8
+    requires { ⌜ (32766 ≤ length (now answers)) × (32766 ≤ length (now counts)) ⌝ }
+    ensures { λ r. ⌜ answered r (now (stops .exit)) ≡ eventOn (readScript (now (script .entry))) (eventOf kind (now (tokens .entry))) ⌝ }
+{
+    let ran = run::run(script, 65_536, answers, counts);
+    let ran_answer = ran.answer;
+    let number = ran_answer.number();
+    if number != 0 {
+        *stops = 0;
+        return number;
+    }
+    let drive = ran.drive;
+    let reply = events::apply(drive, kind, tokens);
+    *stops = reply.stops;
+    let answer = reply.answer;
+    answer.number()
+}
+
+// One event, with any numbers, on the drive that a script leaves: its answer and its stops. The kind is a script's, and so are the fields,
+// save that a Set has a value for each column, named or not; the bytes of an expression go beside them.
+#[no_mangle]
+pub extern "C" fn drive_event(
+    script: &[u8],
+    kind: u64,
+    fields: &[u64],
+    tokens: &[u8],
+    stops: &mut u64,
+) -> u8
+    ensures { λ r. ⌜ answered r (now (stops .exit)) ≡ eventTold (readScript (now (script .entry))) kind (now (fields .entry)) (now (tokens .entry)) ⌝ }
+{
+    if kind < 1 {
+        *stops = 0;
+        return 2;
+    }
+    if 7 < kind {
+        *stops = 0;
+        return 2;
+    }
+    let event = kind_of(kind, fields);
+    let mut answers = [0; 32_766];
+    let mut counts = [0; 32_766];
+    event_by(script, event, tokens, stops, &mut answers, &mut counts)
 }
