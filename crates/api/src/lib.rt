@@ -93,10 +93,10 @@ pub extern "C" fn tokens_read(bytes: &[u8], out: &mut [u64], count: &mut usize) 
 {
     let read = token_reader::read(bytes);
     let answer = read.answer;
-    let number = answer.number();
-    if number != 0 {
+    let given = answer.number();
+    if given != 0 {
         *count = 0;
-        return number;
+        return given;
     }
     let expression = read.expression;
     let elements = expression.elements;

@@ -87,7 +87,10 @@ impl Coverage {
     pub fn finish(&self) {
         println!("scripts compared: {}, of them bad: {}; events: {}", self.scripts, self.bad, self.events);
         println!("answers to events, 0 to 9: {:?}", self.answers);
-        println!("answers of runs: {} done, {} bad script, {} short buffer", self.calls[0], self.calls[10], self.calls[11]);
+        println!(
+            "answers of runs: {} done, {} bad script, {} short buffer",
+            self.calls[0], self.calls[10], self.calls[11]
+        );
         println!("stops: {:?}", self.stops);
         for (&(kind, from, to), n) in &self.moves {
             println!("phase {} to {} by {}: {n}", PHASES[from as usize], PHASES[to as usize], KINDS[kind as usize - 1]);
@@ -102,7 +105,10 @@ impl Coverage {
         assert!(self.calls[0] > 0 && self.calls[10] > 0 && self.calls[11] > 0, "an answer of a run was not reached");
         assert!(MOVES.iter().all(|m| self.moves.contains_key(m)), "a move was not reached");
         assert!(self.stays.iter().all(|&n| n > 0), "a phase was not reached");
-        assert!(DAMAGES.iter().all(|d| self.damages.get(d).is_some_and(|n| n[1] > 0)), "a kind of damage was not reached");
+        assert!(
+            DAMAGES.iter().all(|d| self.damages.get(d).is_some_and(|n| n[1] > 0)),
+            "a kind of damage was not reached"
+        );
         assert!(self.at_zero > 0 && self.places.len() > 2, "places were not reached");
     }
 
@@ -110,5 +116,11 @@ impl Coverage {
     pub fn tokens(&self) {
         println!("answers of token calls, 0 to 11: {:?}", self.calls);
         assert!([0, 2, 3, 4, 11].iter().all(|&a| self.calls[a] > 0), "an answer of a token call was not reached");
+    }
+
+    /// The same of single events: all answers but 11.
+    pub fn events(&self) {
+        println!("answers of single events, 0 to 11: {:?}", self.calls);
+        assert!(self.calls[..11].iter().all(|&n| n > 0), "an answer of a single event was not reached");
     }
 }

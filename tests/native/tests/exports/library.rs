@@ -2,7 +2,8 @@
 
 mod exported {
     extern "C" {
-        pub fn drive_list(script: *const u8, script_len: usize, out: *mut u8, out_len: usize, length: *mut usize) -> u8;
+        pub fn drive_list(script: *const u8, script_len: usize, out: *mut u8, out_len: usize, length: *mut usize)
+            -> u8;
         pub fn drive_run(
             script: *const u8,
             script_len: usize,
@@ -15,7 +16,8 @@ mod exported {
             count: *mut usize,
         ) -> u8;
         pub fn tokens_read(bytes: *const u8, bytes_len: usize, out: *mut u64, out_len: usize, count: *mut usize) -> u8;
-        pub fn tokens_write(codes: *const u64, codes_len: usize, out: *mut u8, out_len: usize, count: *mut usize) -> u8;
+        pub fn tokens_write(codes: *const u64, codes_len: usize, out: *mut u8, out_len: usize, count: *mut usize)
+            -> u8;
         pub fn drive_fresh(
             capacity: u64,
             bands: u64,
@@ -23,6 +25,16 @@ mod exported {
             blocks: *mut u64,
             band_count: *mut usize,
             sensor_count: *mut usize,
+        ) -> u8;
+        pub fn drive_event(
+            script: *const u8,
+            script_len: usize,
+            kind: u64,
+            fields: *const u64,
+            fields_len: usize,
+            tokens: *const u8,
+            tokens_len: usize,
+            stops: *mut u64,
         ) -> u8;
     }
 }
@@ -51,9 +63,16 @@ pub struct Fresh {
     pub sensors: usize,
 }
 
+#[derive(Debug, PartialEq)]
+pub struct Answered {
+    pub answer: u8,
+    pub stops: u64,
+}
+
 pub fn list(script: &[u8], out: &mut [u8]) -> Told {
     let mut count = UNWRITTEN;
-    let answer = unsafe { exported::drive_list(script.as_ptr(), script.len(), out.as_mut_ptr(), out.len(), &mut count) };
+    let answer =
+        unsafe { exported::drive_list(script.as_ptr(), script.len(), out.as_mut_ptr(), out.len(), &mut count) };
     Told { answer, count }
 }
 
@@ -83,12 +102,32 @@ pub fn read_tokens(bytes: &[u8], out: &mut [u64]) -> Told {
 
 pub fn write_tokens(codes: &[u64], out: &mut [u8]) -> Told {
     let mut count = UNWRITTEN;
-    let answer = unsafe { exported::tokens_write(codes.as_ptr(), codes.len(), out.as_mut_ptr(), out.len(), &mut count) };
+    let answer =
+        unsafe { exported::tokens_write(codes.as_ptr(), codes.len(), out.as_mut_ptr(), out.len(), &mut count) };
     Told { answer, count }
 }
 
 pub fn fresh(capacity: u64, bands: u64, sensors: u64) -> Fresh {
     let (mut blocks, mut band_count, mut sensor_count) = (UNWRITTEN as u64, UNWRITTEN, UNWRITTEN);
-    let answer = unsafe { exported::drive_fresh(capacity, bands, sensors, &mut blocks, &mut band_count, &mut sensor_count) };
+    let answer =
+        unsafe { exported::drive_fresh(capacity, bands, sensors, &mut blocks, &mut band_count, &mut sensor_count) };
     Fresh { answer, capacity: blocks, bands: band_count, sensors: sensor_count }
+}
+
+/// One event on the drive that the script leaves. A Set's fields are its row, its mask and a value for every column.
+pub fn event(script: &[u8], kind: u64, fields: &[u64], tokens: &[u8]) -> Answered {
+    let mut stops = UNWRITTEN as u64;
+    let answer = unsafe {
+        exported::drive_event(
+            script.as_ptr(),
+            script.len(),
+            kind,
+            fields.as_ptr(),
+            fields.len(),
+            tokens.as_ptr(),
+            tokens.len(),
+            &mut stops,
+        )
+    };
+    Answered { answer, stops }
 }

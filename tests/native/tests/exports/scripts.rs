@@ -16,7 +16,7 @@ pub fn put(to: &mut Vec<u8>, mut n: u64) {
 #[derive(Clone)]
 pub struct Event {
     pub kind: u64,
-    /// All its numbers in order, a mask among them, less the byte length.
+    /// All its numbers in order, a mask among them, but for the byte length.
     pub fields: Vec<u64>,
     /// The expression's bytes where the mask names them.
     pub tokens: Option<Vec<u8>>,
@@ -38,6 +38,24 @@ impl Event {
             to.extend(tokens);
         }
         to
+    }
+}
+
+impl Event {
+    /// Its fields as a direct call takes them: a Set has a value for every column, and those that its mask does not name may be anything.
+    pub fn direct(&self, r: &mut Random) -> Vec<u64> {
+        let columns = match self.kind {
+            4 => 7,
+            5 => 5,
+            _ => return self.fields.clone(),
+        };
+        let mask = self.fields[1];
+        let mut named = self.fields[2..].iter();
+        let mut fields = self.fields[..2].to_vec();
+        for bit in 0..columns {
+            fields.push(if mask >> bit & 1 == 1 { *named.next().unwrap() } else { r.next() });
+        }
+        fields
     }
 }
 
@@ -170,6 +188,30 @@ pub fn event(r: &mut Random, [capacity, bands, sensors]: [u64; 3]) -> Event {
     }
 }
 
+/// Sets that bring a drive to life: sensors that are enabled, bands that lie apart and have expressions over them.
+fn lively(r: &mut Random, [capacity, bands, sensors]: [u64; 3]) -> Vec<Event> {
+    let mut events = Vec::new();
+    for sensor in 0..sensors {
+        let on = r.below(4);
+        let fields = [sensor, 127, 1, on, 0, r.below(7), r.below(on + 2), 0, r.below(7)];
+        events.push(Event::new(4, &fields));
+        if r.one_in(2) {
+            events.push(Event::new(1, &[sensor, r.below(8) * 500]));
+        }
+    }
+    let part = capacity / bands;
+    for band in 0..bands {
+        let locked = [r.below(2), r.below(2)];
+        let mut set = Event::new(5, &[band, 63, 1, r.below(2), locked[0], locked[1], r.below(8)]);
+        set.tokens = Some(tokens::unlimited(&tokens::postfix(r, sensors)));
+        events.push(set);
+        if band > 0 {
+            events.push(Event::new(6, &[band, band * part, part.min(1 + r.below(8))]));
+        }
+    }
+    events
+}
+
 /// A script that reads to its end.
 pub fn structured(r: &mut Random) -> Script {
     let capacity = r.pick(&[1, 2, 10, 16, 24, 1_000, (1 << 48) - 1, 1 << 48]);
@@ -181,7 +223,9 @@ pub fn structured(r: &mut Random) -> Script {
         1 => r.below(400),
         _ => r.below(40),
     };
-    Script { header, events: (0..count).map(|_| event(r, header)).collect() }
+    let mut events = if r.one_in(2) { lively(r, header) } else { vec![] };
+    events.extend((0..count).map(|_| event(r, header)));
+    Script { header, events }
 }
 
 /// The ways to make a script bad, or only other. All but the last three have a place that is known.
@@ -246,7 +290,16 @@ fn bad_mask(r: &mut Random) -> Vec<u8> {
 }
 
 fn bad_header(r: &mut Random) -> [u64; 3] {
-    r.pick(&[[0, 1, 0], [(1 << 48) + 1, 1, 0], [u64::MAX, 1, 0], [10, 0, 1], [10, 17, 1], [10, 1, 17], [10, 1, 1 << 32], [10, 1 << 63, 1]])
+    r.pick(&[
+        [0, 1, 0],
+        [(1 << 48) + 1, 1, 0],
+        [u64::MAX, 1, 0],
+        [10, 0, 1],
+        [10, 17, 1],
+        [10, 1, 17],
+        [10, 1, 1 << 32],
+        [10, 1 << 63, 1],
+    ])
 }
 
 fn long_expression(r: &mut Random) -> Vec<u8> {
@@ -317,7 +370,13 @@ pub fn damaged(r: &mut Random, script: &Script, how: Damage) -> (Vec<u8>, Option
             let short = 65_536 + over - bytes.len();
             let cut = bytes.len();
             bytes.resize(bytes.len() + short, 3);
-            let bad = if over == 1 { Some(0) } else if short == 1 { Some(cut) } else { None };
+            let bad = if over == 1 {
+                Some(0)
+            } else if short == 1 {
+                Some(cut)
+            } else {
+                None
+            };
             (bytes, Some(bad))
         }
         Damage::Changed => {
