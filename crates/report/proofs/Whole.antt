@@ -47,7 +47,7 @@ sizedIn (outcome answer place count drive answers stops) = Sized count drive ans
 module _ (s answers stops : List ℕ) (long : 32766 ≤ length answers) (wide : 32766 ≤ length stops) where
   -- a script that reads to its end is run whole
   module _ (capacity bands sensors : ℕ) (es : List Event) (q : readScript s ≡ accepted capacity bands sensors es) where
-    whole : runScript (accepted capacity bands sensors es) 65536 answers stops
+    pub whole : runScript (accepted capacity bands sensors es) 65536 answers stops
         ≡ outcome 0 0 (length es) (runOf (freshDrive capacity bands sensors) es) (over (answersOf (freshDrive capacity bands sensors) es) answers)
         (over (stopsIn (freshDrive capacity bands sensors) es) stops)
     whole =

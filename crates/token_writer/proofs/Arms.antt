@@ -120,7 +120,7 @@ module _ (codes out : List ℕ) (t : Bool) (p : t ≡ codesFit codes) where
 pub taken-length : (l : List ℕ) (n : ℕ) → length l ≡ 32 → n ≤ 32 → n ≡ length (take n l)
 taken-length l n e h = sym (length-take-le n l (omega arith))
 
-codes-taken : (es : List Element) (n : ℕ) → take n (codesOf es) ≡ codesOf (take n es)
+pub codes-taken : (es : List Element) (n : ℕ) → take n (codesOf es) ≡ codesOf (take n es)
 codes-taken es zero = refl
 codes-taken [] (suc n) = refl
 codes-taken (e ∷ es) (suc n) = ap (λ (r : List ℕ). codeOf (e .part) ∷ r) (codes-taken es n)

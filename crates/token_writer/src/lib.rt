@@ -171,7 +171,7 @@ pub fn write(codes: &[u64], out: &mut [u8]) -> Written
 }
 
 // The numbers of an expression's first 32 elements.
-fn codes(elements: [Element; 32]) -> [u64; 32]
+pub fn codes(elements: [Element; 32]) -> [u64; 32]
     ensures { λ r. ⌜ r ≡ codesOf elements ⌝ }
 {
     let mut out = [0; 32];

@@ -1,0 +1,45 @@
+use Rattle.api.proofs.Telling.{sensor-columns-are}
+use borrow.Author.Needs.{needs}
+use Rattle.api.proofs.sensor_columns.Statement.{statement}
+use Rattle.api.proofs.sensor_columns.Tie as tie
+
+field-requires : tie.Need-field-requires
+field-requires c κs = search needs
+
+field-requires-2 : tie.Need-field-requires-2
+field-requires-2 c κs = search needs
+
+field-requires-3 : tie.Need-field-requires-3
+field-requires-3 c κs = search needs
+
+field-requires-4 : tie.Need-field-requires-4
+field-requires-4 c κs = search needs
+
+field-requires-5 : tie.Need-field-requires-5
+field-requires-5 c κs = search needs
+
+field-requires-6 : tie.Need-field-requires-6
+field-requires-6 c κs = search needs
+
+field-requires-7 : tie.Need-field-requires-7
+field-requires-7 c κs = search needs
+
+field-requires-8 : tie.Need-field-requires-8
+field-requires-8 c κs = search needs
+
+returns : tie.Need-returns
+returns c = search (sensor-columns-are, needs)
+
+pub sensor-columns-spec : {M : Type 1} → statement M
+sensor-columns-spec =
+    tie.close
+    (tie.spec
+    field-requires
+    field-requires-2
+    field-requires-3
+    field-requires-4
+    field-requires-5
+    field-requires-6
+    field-requires-7
+    field-requires-8
+    returns)

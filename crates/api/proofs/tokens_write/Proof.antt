@@ -1,0 +1,19 @@
+use Rattle.api.proofs.Telling.{write-told}
+use borrow.Author.Needs.{needs}
+use Rattle.api.proofs.tokens_write.Statement.{statement}
+use Rattle.api.proofs.tokens_write.Tie as tie
+
+write-requires : tie.Need-write-requires
+write-requires c κs = search needs
+
+number-requires : tie.Need-number-requires
+number-requires c κs = search needs
+
+same-length : tie.Need-same-length
+same-length c = search needs
+
+returns : tie.Need-returns
+returns c = search (write-told, needs)
+
+pub tokens-write-spec : {M : Type 1} → statement M
+tokens-write-spec = tie.close (tie.spec write-requires number-requires same-length returns)

@@ -1,0 +1,259 @@
+// The functions that programs in other languages link: numbers and slices of numbers, and every result a number. A result beside the
+// answer is written through a `&mut` of its own.
+ghost use mathlib.Core.Path.{_≡_};
+ghost use Prim.Native.Nat.{_≤_};
+ghost use lib.ListN.{length, getD};
+ghost use Rattle.drive.specs.Events.{eventOf};
+ghost use Rattle.script.specs.Whole.{readScript};
+ghost use Rattle.run.specs.Outcome.{runScript};
+ghost use Rattle.base.specs.Spliced.{spliced};
+ghost use Rattle.token_reader.specs.Read.{readTokens};
+ghost use Rattle.report.specs.Listing.{told, listing, listOf};
+ghost use Rattle.report.specs.Parts.{Room};
+ghost use Rattle.api.specs.Exports.{
+  ranTo,
+  runTold,
+  readInto,
+  writeInto,
+  freshTo,
+  freshTold,
+  sensorColumns,
+  bandColumns,
+  kindOf,
+  answered,
+  eventOn,
+  eventTold,
+};
+use band::BandColumns;
+use drive::Drive;
+use drive::Kind;
+use sensor::SensorColumns;
+
+// The listing of a script, from the output's start, and its length.
+#[no_mangle]
+pub extern "C" fn drive_list(script: &[u8], out: &mut [u8], length: &mut usize) -> u8
+    ensures { λ r. ⌜ told r (now (length .exit)) (now (out .exit)) ≡ listOf (listing (readScript (now (script .entry)))) (now (out .entry)) ⌝ }
+{
+    let listed = report::list(script, out);
+    *length = listed.length;
+    let answer = listed.answer;
+    answer.number()
+}
+
+// The run of a script's first events, at most so many: the answer and the stops of each in the two buffers, the place of a bad script and
+// the number of events run.
+#[no_mangle]
+pub extern "C" fn drive_run(
+    script: &[u8],
+    most: u64,
+    answers: &mut [u8],
+    stops: &mut [u8],
+    place: &mut usize,
+    count: &mut usize,
+) -> u8
+    ensures { λ r. ⌜ ranTo r (now (place .exit)) (now (count .exit)) (now (answers .exit)) (now (stops .exit)) ≡ runTold (runScript (readScript (now (script .entry))) most (now (answers .entry)) (now (stops .entry))) ⌝ }
+{
+    let ran = run::run(script, most, answers, stops);
+    *place = ran.place;
+    *count = ran.count;
+    let answer = ran.answer;
+    answer.number()
+}
+
+// Copies numbers to the output's start.
+fn copy(out: &mut [u64], codes: &[u64])
+    requires { ⌜ Room (now codes) 0 (now out) ⌝ }
+    ensures { λ _. ⌜ now (out .exit) ≡ spliced (now (out .entry)) 0 (now (codes .entry)) ⌝ }
+{
+    let mut i = 0;
+    while i < codes.len() {
+        out[i] = codes[i];
+        i += 1;
+    }
+}
+
+// Hands numbers over where they fit, and tells how many.
+fn hand(codes: &[u64], out: &mut [u64], count: &mut usize) -> u8
+    ensures { λ r. ⌜ told r (now (count .exit)) (now (out .exit)) ≡ listOf (now (codes .entry)) (now (out .entry)) ⌝ }
+{
+    let length = codes.len();
+    if out.len() < length {
+        *count = 0;
+        return 11;
+    }
+    copy(out, codes);
+    *count = length;
+    0
+}
+
+// The elements that bytes are the token form of, as `tokens_write` takes them, and how many there are.
+#[no_mangle]
+pub extern "C" fn tokens_read(bytes: &[u8], out: &mut [u64], count: &mut usize) -> u8
+    ensures { λ r. ⌜ told r (now (count .exit)) (now (out .exit)) ≡ readInto (readTokens (now (bytes .entry))) (now (out .entry)) ⌝ }
+{
+    let read = token_reader::read(bytes);
+    let answer = read.answer;
+    let given = answer.number();
+    if given != 0 {
+        *count = 0;
+        return given;
+    }
+    let expression = read.expression;
+    let elements = expression.elements;
+    let codes = token_writer::codes(elements);
+    let length = expression.count;
+    hand(&codes[..length], out, count)
+}
+
+// The token form of a list of elements, from the output's start, and its length. A number below 2^32 is a reference to that row, and 2^32
+// plus a code is an operator.
+#[no_mangle]
+pub extern "C" fn tokens_write(codes: &[u64], out: &mut [u8], count: &mut usize) -> u8
+    ensures { λ r. ⌜ told r (now (count .exit)) (now (out .exit)) ≡ writeInto (now (codes .entry)) (now (out .entry)) ⌝ }
+{
+    let written = token_writer::write(codes, out);
+    *count = written.count;
+    let answer = written.answer;
+    answer.number()
+}
+
+// What the fresh drive of a header counts.
+#[no_mangle]
+pub extern "C" fn drive_fresh(
+    capacity: u64,
+    bands: u64,
+    sensors: u64,
+    blocks: &mut u64,
+    band_count: &mut usize,
+    sensor_count: &mut usize,
+) -> u8
+    ensures { λ r. ⌜ freshTo r (now (blocks .exit)) (now («band_count» .exit)) (now («sensor_count» .exit)) ≡ freshTold capacity bands sensors ⌝ }
+{
+    let fresh = Drive::fresh(capacity, bands, sensors);
+    let drive = fresh.drive;
+    *blocks = drive.capacity;
+    *band_count = drive.band_count;
+    *sensor_count = drive.sensor_count;
+    let answer = fresh.answer;
+    answer.number()
+}
+
+// A number of a list, 0 past its end.
+fn field(fields: &[u64], at: usize) -> u64
+    ensures { λ r. ⌜ r ≡ getD (now (fields .entry)) at 0 ⌝ }
+{
+    if at < fields.len() {
+        return fields[at];
+    }
+    0
+}
+
+fn sensor_columns(fields: &[u64]) -> SensorColumns
+    ensures { λ r. ⌜ r ≡ sensorColumns (now (fields .entry)) ⌝ }
+{
+    SensorColumns {
+        mask: field(fields, 1),
+        enabled: field(fields, 2),
+        on_threshold: field(fields, 3),
+        on_fraction: field(fields, 4),
+        on_timeout: field(fields, 5),
+        off_threshold: field(fields, 6),
+        off_fraction: field(fields, 7),
+        off_timeout: field(fields, 8),
+    }
+}
+
+fn band_columns(fields: &[u64]) -> BandColumns
+    ensures { λ r. ⌜ r ≡ bandColumns (now (fields .entry)) ⌝ }
+{
+    BandColumns {
+        mask: field(fields, 1),
+        read_lock_enabled: field(fields, 2),
+        write_lock_enabled: field(fields, 3),
+        read_locked: field(fields, 4),
+        write_locked: field(fields, 5),
+        lock_on_reset: field(fields, 6),
+    }
+}
+
+// The event of a kind: 1 to 6, or else a transfer.
+fn kind_of(kind: u64, fields: &[u64]) -> Kind
+    ensures { λ r. ⌜ r ≡ kindOf kind (now (fields .entry)) ⌝ }
+{
+    let first = field(fields, 0);
+    let second = field(fields, 1);
+    let third = field(fields, 2);
+    if kind == 1 {
+        return Kind::Reading(first, second);
+    }
+    if kind == 2 {
+        return Kind::Elapse(first);
+    }
+    if kind == 3 {
+        return Kind::Reset(first);
+    }
+    if kind == 4 {
+        let columns = sensor_columns(fields);
+        return Kind::SensorSet(first, columns);
+    }
+    if kind == 5 {
+        let columns = band_columns(fields);
+        return Kind::BandSet(first, columns);
+    }
+    if kind == 6 {
+        return Kind::Geometry(first, second, third);
+    }
+    Kind::Transfer(first, second, third)
+}
+
+// One event on the drive that a script leaves, by way of lent memory: a byte for each of the script's events in two buffers.
+fn event_by(
+    script: &[u8],
+    kind: Kind,
+    tokens: &[u8],
+    stops: &mut u64,
+    answers: &mut [u8],
+    counts: &mut [u8],
+) -> u8
+    requires { ⌜ (32766 ≤ length (now answers)) × (32766 ≤ length (now counts)) ⌝ }
+    ensures { λ r. ⌜ answered r (now (stops .exit)) ≡ eventOn (readScript (now (script .entry))) (eventOf kind (now (tokens .entry))) ⌝ }
+{
+    let ran = run::run(script, 65_536, answers, counts);
+    let ran_answer = ran.answer;
+    let number = ran_answer.number();
+    if number != 0 {
+        *stops = 0;
+        return number;
+    }
+    let drive = ran.drive;
+    let reply = events::apply(drive, kind, tokens);
+    *stops = reply.stops;
+    let answer = reply.answer;
+    answer.number()
+}
+
+// One event, with any numbers, on the drive that a script leaves: its answer and its stops. The kind is a script's, and so are the fields,
+// save that a Set has a value for each column, named or not; the bytes of an expression go beside them.
+#[no_mangle]
+pub extern "C" fn drive_event(
+    script: &[u8],
+    kind: u64,
+    fields: &[u64],
+    tokens: &[u8],
+    stops: &mut u64,
+) -> u8
+    ensures { λ r. ⌜ answered r (now (stops .exit)) ≡ eventTold (readScript (now (script .entry))) kind (now (fields .entry)) (now (tokens .entry)) ⌝ }
+{
+    if kind < 1 {
+        *stops = 0;
+        return 2;
+    }
+    if 7 < kind {
+        *stops = 0;
+        return 2;
+    }
+    let event = kind_of(kind, fields);
+    let mut answers = [0; 32_766];
+    let mut counts = [0; 32_766];
+    event_by(script, event, tokens, stops, &mut answers, &mut counts)
+}

@@ -1,0 +1,126 @@
+//! What the tests reached: answers, stops, moves of phases, places, and ways to be bad.
+use crate::scripts::{Damage, DAMAGES};
+use std::collections::{BTreeMap, BTreeSet};
+
+const PHASES: [&str; 5] = ["SS0", "ST0", "SS1", "ST1", "SS2"];
+const KINDS: [&str; 7] = ["reading", "elapse", "reset", "sensor Set", "band Set", "geometry", "transfer"];
+
+/// Every move that document 01 has, by the kind of event, from and to: nothing else may happen.
+const MOVES: [(u64, u8, u8); 20] = [
+    (1, 1, 3),
+    (1, 1, 4),
+    (1, 2, 3),
+    (1, 2, 4),
+    (1, 3, 1),
+    (1, 3, 2),
+    (1, 4, 1),
+    (1, 4, 2),
+    (2, 1, 2),
+    (2, 3, 4),
+    (3, 1, 4),
+    (3, 2, 4),
+    (3, 3, 4),
+    (4, 0, 1),
+    (4, 0, 2),
+    (4, 0, 4),
+    (4, 1, 0),
+    (4, 2, 0),
+    (4, 3, 0),
+    (4, 4, 0),
+];
+
+#[derive(Default)]
+pub struct Coverage {
+    scripts: u64,
+    bad: u64,
+    events: u64,
+    /// Of events, and of calls.
+    answers: [u64; 10],
+    calls: [u64; 12],
+    stops: BTreeMap<u8, u64>,
+    moves: BTreeMap<(u64, u8, u8), u64>,
+    stays: [u64; 5],
+    places: BTreeSet<usize>,
+    at_zero: u64,
+    damages: BTreeMap<Damage, [u64; 2]>,
+}
+
+impl Coverage {
+    pub fn new() -> Self {
+        Self::default()
+    }
+
+    pub fn answer(&mut self, answer: u8) {
+        self.calls[answer as usize] += 1;
+    }
+
+    pub fn listing(&mut self, answers: &[u8], stops: &[u8], bad: Option<usize>) {
+        self.scripts += 1;
+        self.events += answers.len() as u64;
+        for &a in answers {
+            self.answers[a as usize] += 1;
+        }
+        for &n in stops {
+            *self.stops.entry(n).or_default() += 1;
+        }
+        if let Some(place) = bad {
+            self.bad += 1;
+            self.at_zero += (place == 0) as u64;
+            self.places.insert(place);
+        }
+    }
+
+    pub fn phase(&mut self, kind: u64, from: u8, to: u8) {
+        if from == to {
+            self.stays[from as usize] += 1;
+            return;
+        }
+        assert!(MOVES.contains(&(kind, from, to)), "no such move: kind {kind}, {from} to {to}");
+        *self.moves.entry((kind, from, to)).or_default() += 1;
+    }
+
+    pub fn damage(&mut self, how: Damage, bad: Option<usize>) {
+        self.damages.entry(how).or_default()[bad.is_some() as usize] += 1;
+    }
+
+    /// Prints what the scripts reached, and fails where something was not.
+    pub fn finish(&self) {
+        println!("scripts compared: {}, of them bad: {}; events: {}", self.scripts, self.bad, self.events);
+        println!("answers to events, 0 to 9: {:?}", self.answers);
+        println!(
+            "answers of runs: {} done, {} bad script, {} short buffer",
+            self.calls[0], self.calls[10], self.calls[11]
+        );
+        println!("stops: {:?}", self.stops);
+        for (&(kind, from, to), n) in &self.moves {
+            println!("phase {} to {} by {}: {n}", PHASES[from as usize], PHASES[to as usize], KINDS[kind as usize - 1]);
+        }
+        println!("phase kept, by phase: {:?}", self.stays);
+        let last = self.places.last().unwrap();
+        println!("places: {} at 0, {} different ones, the last {last}", self.at_zero, self.places.len());
+        for (how, [good, bad]) in &self.damages {
+            println!("damage {how:?}: {bad} bad, {good} still read");
+        }
+        assert!(self.answers.iter().all(|&n| n > 0), "an answer was not reached");
+        assert!(self.calls[0] > 0 && self.calls[10] > 0 && self.calls[11] > 0, "an answer of a run was not reached");
+        assert!(MOVES.iter().all(|m| self.moves.contains_key(m)), "a move was not reached");
+        assert!(self.stays.iter().all(|&n| n > 0), "a phase was not reached");
+        assert!(
+            DAMAGES.iter().all(|d| self.damages.get(d).is_some_and(|n| n[1] > 0)),
+            "a kind of damage was not reached"
+        );
+        assert!(self.at_zero > 0 && self.places.len() > 2, "places were not reached");
+    }
+
+    /// The same of tokens read and written: 0, 2, 3, 4 and 11.
+    pub fn tokens(&self) {
+        println!("answers of token calls, 0 to 11: {:?}", self.calls);
+        assert!([0, 2, 3, 4, 11].iter().all(|&a| self.calls[a] > 0), "an answer of a token call was not reached");
+    }
+
+    /// The same of single events: all answers but 11.
+    pub fn events(&self) {
+        println!("answers of single events, 0 to 11: {:?}", self.calls);
+        assert!(self.calls[..11].iter().all(|&n| n > 0), "an answer of a single event was not reached");
+    }
+}

@@ -1,0 +1,133 @@
+//! The exported functions of crates/api, each behind a safe function. None has a `requires`, so there is nothing to test before a call.
+
+mod exported {
+    extern "C" {
+        pub fn drive_list(script: *const u8, script_len: usize, out: *mut u8, out_len: usize, length: *mut usize)
+            -> u8;
+        pub fn drive_run(
+            script: *const u8,
+            script_len: usize,
+            most: u64,
+            answers: *mut u8,
+            answers_len: usize,
+            stops: *mut u8,
+            stops_len: usize,
+            place: *mut usize,
+            count: *mut usize,
+        ) -> u8;
+        pub fn tokens_read(bytes: *const u8, bytes_len: usize, out: *mut u64, out_len: usize, count: *mut usize) -> u8;
+        pub fn tokens_write(codes: *const u64, codes_len: usize, out: *mut u8, out_len: usize, count: *mut usize)
+            -> u8;
+        pub fn drive_fresh(
+            capacity: u64,
+            bands: u64,
+            sensors: u64,
+            blocks: *mut u64,
+            band_count: *mut usize,
+            sensor_count: *mut usize,
+        ) -> u8;
+        pub fn drive_event(
+            script: *const u8,
+            script_len: usize,
+            kind: u64,
+            fields: *const u64,
+            fields_len: usize,
+            tokens: *const u8,
+            tokens_len: usize,
+            stops: *mut u64,
+        ) -> u8;
+    }
+}
+
+/// What the numbers written through a pointer hold before a call: each function writes all of them.
+const UNWRITTEN: usize = 0x5a5a_5a5a;
+
+#[derive(Debug, PartialEq)]
+pub struct Told {
+    pub answer: u8,
+    pub count: usize,
+}
+
+#[derive(Debug, PartialEq)]
+pub struct Ran {
+    pub answer: u8,
+    pub place: usize,
+    pub count: usize,
+}
+
+#[derive(Debug, PartialEq)]
+pub struct Fresh {
+    pub answer: u8,
+    pub capacity: u64,
+    pub bands: usize,
+    pub sensors: usize,
+}
+
+#[derive(Debug, PartialEq)]
+pub struct Answered {
+    pub answer: u8,
+    pub stops: u64,
+}
+
+pub fn list(script: &[u8], out: &mut [u8]) -> Told {
+    let mut count = UNWRITTEN;
+    let answer =
+        unsafe { exported::drive_list(script.as_ptr(), script.len(), out.as_mut_ptr(), out.len(), &mut count) };
+    Told { answer, count }
+}
+
+pub fn run(script: &[u8], most: u64, answers: &mut [u8], stops: &mut [u8]) -> Ran {
+    let (mut place, mut count) = (UNWRITTEN, UNWRITTEN);
+    let answer = unsafe {
+        exported::drive_run(
+            script.as_ptr(),
+            script.len(),
+            most,
+            answers.as_mut_ptr(),
+            answers.len(),
+            stops.as_mut_ptr(),
+            stops.len(),
+            &mut place,
+            &mut count,
+        )
+    };
+    Ran { answer, place, count }
+}
+
+pub fn read_tokens(bytes: &[u8], out: &mut [u64]) -> Told {
+    let mut count = UNWRITTEN;
+    let answer = unsafe { exported::tokens_read(bytes.as_ptr(), bytes.len(), out.as_mut_ptr(), out.len(), &mut count) };
+    Told { answer, count }
+}
+
+pub fn write_tokens(codes: &[u64], out: &mut [u8]) -> Told {
+    let mut count = UNWRITTEN;
+    let answer =
+        unsafe { exported::tokens_write(codes.as_ptr(), codes.len(), out.as_mut_ptr(), out.len(), &mut count) };
+    Told { answer, count }
+}
+
+pub fn fresh(capacity: u64, bands: u64, sensors: u64) -> Fresh {
+    let (mut blocks, mut band_count, mut sensor_count) = (UNWRITTEN as u64, UNWRITTEN, UNWRITTEN);
+    let answer =
+        unsafe { exported::drive_fresh(capacity, bands, sensors, &mut blocks, &mut band_count, &mut sensor_count) };
+    Fresh { answer, capacity: blocks, bands: band_count, sensors: sensor_count }
+}
+
+/// One event on the drive that the script leaves. A Set's fields are its row, its mask and a value for every column.
+pub fn event(script: &[u8], kind: u64, fields: &[u64], tokens: &[u8]) -> Answered {
+    let mut stops = UNWRITTEN as u64;
+    let answer = unsafe {
+        exported::drive_event(
+            script.as_ptr(),
+            script.len(),
+            kind,
+            fields.as_ptr(),
+            fields.len(),
+            tokens.as_ptr(),
+            tokens.len(),
+            &mut stops,
+        )
+    };
+    Answered { answer, stops }
+}
