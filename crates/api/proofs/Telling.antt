@@ -13,7 +13,7 @@ use Rattle.sensor.specs.declared.columns.SensorColumns.{SensorColumns}
 use Rattle.band.specs.declared.BandColumns.{BandColumns}
 use Rattle.expression.specs.declared.Element.{Element}
 use Rattle.expression.specs.declared.Expression.{Expression}
-use Rattle.expression.specs.Elements.{blank, expressionOf}
+use Rattle.expression.specs.Elements.{blank}
 use Rattle.token_reader.specs.declared.Tokens.{Tokens}
 use Rattle.token_reader.specs.Read.{elements, refusal, answerIn, expressionIn, Tells}
 use Rattle.token_reader.specs.Read.{Outcome as ReadOutcome}

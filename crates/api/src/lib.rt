@@ -3,11 +3,11 @@
 ghost use mathlib.Core.Path.{_≡_};
 ghost use Prim.Native.Nat.{_≤_};
 ghost use lib.ListN.{length, getD};
+ghost use Rattle.base.specs.Spliced.{spliced};
+ghost use Rattle.token_reader.specs.Read.{readTokens};
 ghost use Rattle.drive.specs.Events.{eventOf};
 ghost use Rattle.script.specs.Whole.{readScript};
 ghost use Rattle.run.specs.Outcome.{runScript};
-ghost use Rattle.base.specs.Spliced.{spliced};
-ghost use Rattle.token_reader.specs.Read.{readTokens};
 ghost use Rattle.report.specs.Listing.{told, listing, listOf};
 ghost use Rattle.report.specs.Parts.{Room};
 ghost use Rattle.api.specs.Exports.{

@@ -85,7 +85,7 @@ impl Coverage {
 
     /// Prints what the scripts reached, and fails where something was not.
     pub fn finish(&self) {
-        println!("scripts compared: {}, of them bad: {}; events: {}", self.scripts, self.bad, self.events);
+        println!("\nscripts compared: {}, of them bad: {}; events: {}", self.scripts, self.bad, self.events);
         println!("answers to events, 0 to 9: {:?}", self.answers);
         println!(
             "answers of runs: {} done, {} bad script, {} short buffer",
@@ -114,13 +114,13 @@ impl Coverage {
 
     /// The same of tokens read and written: 0, 2, 3, 4 and 11.
     pub fn tokens(&self) {
-        println!("answers of token calls, 0 to 11: {:?}", self.calls);
+        println!("\nanswers of token calls, 0 to 11: {:?}", self.calls);
         assert!([0, 2, 3, 4, 11].iter().all(|&a| self.calls[a] > 0), "an answer of a token call was not reached");
     }
 
     /// The same of single events: all answers but 11.
     pub fn events(&self) {
-        println!("answers of single events, 0 to 11: {:?}", self.calls);
+        println!("\nanswers of single events, 0 to 11: {:?}", self.calls);
         assert!(self.calls[..11].iter().all(|&n| n > 0), "an answer of a single event was not reached");
     }
 }

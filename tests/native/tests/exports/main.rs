@@ -254,7 +254,7 @@ fn fresh() {
         *if fits { &mut done } else { &mut refused } += 1;
     }
     assert!(done > 100 && refused > 100);
-    println!("fresh calls: {done} done, {refused} out of range");
+    println!("\nfresh calls: {done} done, {refused} out of range");
 }
 
 /// The answer that a script's band Set gets for these bytes, by the engine.

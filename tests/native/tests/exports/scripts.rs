@@ -188,14 +188,19 @@ pub fn event(r: &mut Random, [capacity, bands, sensors]: [u64; 3]) -> Event {
     }
 }
 
-/// Sets that bring a drive to life: sensors that are enabled, bands that lie apart and have expressions over them.
+/// Sets that bring a drive to life: sensors that are enabled, bands that lie apart and have expressions over them. Sometimes every
+/// condition is TRUE to begin with.
 fn lively(r: &mut Random, [capacity, bands, sensors]: [u64; 3]) -> Vec<Event> {
     let mut events = Vec::new();
+    let all_true = r.one_in(4);
     for sensor in 0..sensors {
         let on = r.below(4);
-        let fields = [sensor, 127, 1, on, 0, r.below(7), r.below(on + 2), 0, r.below(7)];
+        let timeout = if all_true { 0 } else { r.below(7) };
+        let fields = [sensor, 127, 1, on, 0, timeout, r.below(on + 2), 0, r.below(7)];
         events.push(Event::new(4, &fields));
-        if r.one_in(2) {
+        if all_true {
+            events.push(Event::new(1, &[sensor, 3_000 + on]));
+        } else if r.one_in(2) {
             events.push(Event::new(1, &[sensor, r.below(8) * 500]));
         }
     }
@@ -216,7 +221,11 @@ fn lively(r: &mut Random, [capacity, bands, sensors]: [u64; 3]) -> Vec<Event> {
 pub fn structured(r: &mut Random) -> Script {
     let capacity = r.pick(&[1, 2, 10, 16, 24, 1_000, (1 << 48) - 1, 1 << 48]);
     let bands = if r.one_in(4) { 1 + r.below(16) } else { 1 + r.below(4) };
-    let sensors = if r.one_in(4) { r.below(17) } else { 1 + r.below(3) };
+    let sensors = match r.below(8) {
+        0 => r.below(17),
+        1 => 16,
+        _ => 1 + r.below(3),
+    };
     let header = [capacity, bands, sensors];
     let count = match r.below(50) {
         0 => 0,
