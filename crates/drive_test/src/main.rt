@@ -12,6 +12,10 @@ use sensor::SensorColumns;
 
 const MOST: u64 = 18_446_744_073_709_551_615;
 
+// NOT of row 99, which is TRUE on every drive.
+const ALWAYS: [u8; 22] =
+    *b"\xF0\xF2\xA4\x00\x00\x0C\x0E\xA4\x00\x00\x00\x63\xF3\xF2\xA4\x00\x00\x04\x0E\x02\xF3\xF1";
+
 fn print(text: &[u8]) {
     io::write_all(1, text);
 }
@@ -233,7 +237,7 @@ fn least_drive() {
     let drive = fresh.drive;
     let d = after(drive, 0, Kind::Reading(0, 0), b"");
     let d = after(d, 1, Kind::Geometry(1, 0, 0), b"");
-    let d = after(d, 2, Kind::BandSet(0, set(4, 1)), b"");
+    let d = after(d, 2, Kind::BandSet(0, set(36, 1)), &ALWAYS);
     let d = after(d, 3, Kind::Transfer(0, 0, 1), b"");
     let d = after(d, 4, Kind::Transfer(0, 1, 0), b"");
     let d = after(d, 5, Kind::Transfer(0, 0, 2), b"");
