@@ -7,7 +7,7 @@ use Rattle.base.proofs.Cases.{cond-true, neither}
 use Rattle.band.specs.declared.Side.{Side}
 use Rattle.band.specs.declared.Side.the-variants.{Read, Write}
 use Rattle.band.specs.declared.Row.{Row}
-use Rattle.band.specs.Rows.{freshRow, closedOn, openOn, isOpen, valueIn, withLocked, lockUnder, settleRow, inSet, resetRow}
+use Rattle.band.specs.Rows.{freshRow, closedOn, openOn, isOpen, valueIn, withLocked, lockUnder, settleRow, inSet, resetRow, locksBy}
 
 -- ---- what the code's arms come to
 
@@ -50,7 +50,30 @@ closed-read row side t e q = q ∙ ap (λ (s : Side). closedOn s row) (sym e)
 pub closed-write : (row : Row) (side : Side) (t : Bool) → side ≡ Write → t ≡ (row .«write_lock_enabled» && row .«write_locked») → t ≡ closedOn side row
 closed-write row side t e q = q ∙ ap (λ (s : Side). closedOn s row) (sym e)
 
+pub set-locks : (set type : ℕ) (v t : Bool) → t ≡ inSet set type → t ≡ true → true ≡ (inSet set type || v)
+set-locks set type v t p e = ap (λ (x : Bool). x || v) (sym (sym p ∙ e))
+
+pub value-locks : (set type : ℕ) (v w t : Bool) → t ≡ inSet set type → t ≡ false → w ≡ v → w ≡ (inSet set type || v)
+value-locks set type v w t p e q = q ∙ ap (λ (x : Bool). x || v) (sym (sym p ∙ e))
+
 -- ---- laws for the layers above
+
+-- a reset and then settling: each enabled side is locked where the type is in the row's set or the expression is TRUE
+pub reset-settle : (cs : List Bool) (type : ℕ) (row : Row) → settleRow cs (resetRow type row) ≡ lockUnder (locksBy cs type row) row
+unfolding settleRow resetRow
+reset-settle cs type row = go (inSet (row .«lock_on_reset») type)
+  where
+    once : (locked enabled v : Bool) → ((locked || (enabled && true)) || (enabled && v)) ≡ (locked || (enabled && true))
+    once true enabled v = refl
+    once false true v = refl
+    once false false v = refl
+
+    go : (b : Bool) → lockUnder (valueIn cs (cond b (lockUnder true row) row)) (cond b (lockUnder true row) row) ≡ lockUnder (b || valueIn cs row) row
+    go true =
+        ap₂ (λ (a b : Bool). withLocked a b row)
+        (once (row .«read_locked») (row .«read_lock_enabled») (valueIn cs row))
+        (once (row .«write_locked») (row .«write_lock_enabled») (valueIn cs row))
+    go false = refl
 
 -- a row with no open side is reset to itself
 pub shut-reset : (type : ℕ) (row : Row) → isOpen row ≡ false → resetRow type row ≡ row

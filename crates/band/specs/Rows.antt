@@ -77,3 +77,7 @@ inSet set (suc (suc (suc type))) = false
 -- "A band whose set has the type gets each enabled side locked."
 unfoldable pub resetRow : ℕ → Row → Row
 resetRow type row = cond (inSet (row .«lock_on_reset») type) (lockUnder true row) row
+
+-- a reset of a type and then settling lock what is enabled: where the set has the type, or under a TRUE expression
+abbrev pub locksBy : List Bool → ℕ → Row → Bool
+locksBy conditions type row = inSet (row .«lock_on_reset») type || valueIn conditions row

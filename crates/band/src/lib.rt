@@ -1,6 +1,6 @@
 // One locking row, or band (document 01, 'Bands'; 002, 4.3.4 and 4.3.7): what settling, a reset and a Set make of it.
 ghost use mathlib.Core.Path.{_≡_};
-ghost use mathlib.Core.Bool.{cond, _&&_, _||_, not};
+ghost use mathlib.Core.Bool.{true, cond, _&&_, _||_, not};
 ghost use Prim.Native.Nat.{_<_};
 ghost use lib.Dec.{eqb};
 ghost use Rattle.base.specs.Columns.{named, within};
@@ -12,7 +12,9 @@ ghost use Rattle.band.specs.Rows.{
   withLocked,
   lockUnder,
   settleRow,
+  inSet,
   resetRow,
+  locksBy,
 };
 ghost use Rattle.band.specs.Sets.{columnsFit, formedRow, heldBy};
 use expression::Expression;
@@ -129,6 +131,23 @@ impl Row {
         or(read, write)
     }
 
+    // Whether a reset of a type and then settling lock what is enabled: the type is in the row's set, or the expression is TRUE.
+    pub fn locks(self, kind: u64, conditions: [bool; 16]) -> bool
+        ensures { λ r. ⌜ r ≡ locksBy conditions kind self ⌝ }
+    {
+        if in_set(self.lock_on_reset, kind) {
+            return true;
+        }
+        self.value(conditions)
+    }
+
+    // The row with each enabled side locked.
+    pub fn lock(self) -> Row
+        ensures { λ r. ⌜ r ≡ lockUnder true self ⌝ }
+    {
+        self.lock_under(true)
+    }
+
     // The row once it has settled under the sixteen conditions.
     pub fn settle(self, conditions: [bool; 16]) -> Row
         ensures { λ r. ⌜ r ≡ settleRow conditions self ⌝ }
@@ -216,7 +235,7 @@ impl BandColumns {
 
 // Whether a LockOnReset set holds a reset type.
 fn in_set(set: u64, kind: u64) -> bool
-    ensures { λ r. ⌜ r ≡ Rattle.band.specs.Rows.inSet set kind ⌝ }
+    ensures { λ r. ⌜ r ≡ inSet set kind ⌝ }
 {
     match kind {
         0 => has(set, 1),

@@ -2,36 +2,32 @@
 use mathlib.Core.Path.{_≡_, refl, sym, ap, _∙_, subst}
 use Prim.Native.Nat.{ℕ, zero, suc, _+_, _-_, _*_, _^_, _≤_, _<_}
 use native.Mathlib.Omega.{arith}
-use mathlib.Core.Bool.{Bool, true, false, not, cond}
+use mathlib.Core.Bool.{Bool, true, false, not, cond, true≢false}
 use mathlib.Core.List.{List, [], _∷_, _++_, map}
-use lib.Dec.{ltb, eqb}
+use lib.Dec.{ltb}
 use lib.ListN.{length, take, set, length-set, length-append, length-map}
 use borrow.Author.Needs.{scaled-fits}
 use mir.Val.{Fits}
 use mir.Syntax.{w64}
-use Rattle.events.proofs.Arms.{row-place}
-use Rattle.base.specs.Lists.{oneIf, count, any}
-use Rattle.base.specs.Rows.{isRow, modify}
-use Rattle.base.proofs.Jumps.{ticks-keep}
-use Rattle.sensor.specs.declared.single.Sensor.{Sensor}
-use Rattle.sensor.specs.Single.{runs, powerCycleOf}
-use Rattle.sensors.specs.declared.Passed.{Passed}
-use Rattle.sensors.specs.Sixteen.{Passes}
-use Rattle.band.specs.declared.Row.{Row}
-use Rattle.band.specs.Rows.{isOpen}
+use Rattle.base.specs.Lists.{any}
+use Rattle.base.specs.Rows.{isRow}
+use Rattle.sensor.specs.Single.{runs}
+use Rattle.band.specs.Rows.{isOpen, resetRow}
 use Rattle.drive.specs.declared.Drive.{Drive}
 use Rattle.drive.specs.declared.Kind.{Kind}
-use Rattle.drive.specs.State.{settleOf, tickOf}
-use Rattle.drive.specs.Events.{Event, reading, elapse, reset, sensorSet, bandSet, geometry, transfer, eventOf, answerOf, actOf, stopsOf, stepOf, runOf}
-use Rattle.drive.proofs.Settling.{settle-twice}
+use Rattle.drive.specs.State.{settleOf}
+use Rattle.drive.specs.Events.{Event, eventOf, answerOf, stopsOf, stepOf, runOf}
 use Rattle.elapse.specs.declared.Elapsed.{Elapsed}
 use Rattle.elapse.specs.Jumps.{Elapses}
+use Rattle.events.proofs.Arms.{row-place}
 use Rattle.script.specs.declared.EventRead.{EventRead}
 use Rattle.script.specs.declared.EventRead.the-variants as R
 use Rattle.script.specs.Fields.{Parsed, event, broken, parsedIn, tokensAt, eventAt}
 use Rattle.script.specs.Whole.{Events, events, badFrom, before, andThen, eventsIn, eventsFrom}
 use Rattle.in_place.specs.Course.{along, over, Went, Goes, Kept}
-use Rattle.in_place.proofs.Storing.{Ran, Light}
+use Rattle.in_place.proofs.Parts.{few-counted}
+use Rattle.in_place.proofs.Keeping.{step-kept}
+use Rattle.in_place.proofs.Storing.{Ran, Half, finishOf}
 
 -- ---- the lists
 
@@ -187,60 +183,15 @@ module _ (s : List ℕ) (start count : ℕ) (fresh : Drive) (answers₀ stops₀
       let t : take count es ≡ u .done = ap (λ (k : ℕ). take k es) (sym n) ∙ ap (take (length (u .done))) (sym (u .whole)) ∙ take-done (u .done) (u .rest) in
       rw t (u .went)
 
--- ---- what is kept
-
-modify-length : {A : Type 0} (f : A → A) (i : ℕ) (l : List A) → length (modify f i l) ≡ length l
-modify-length f i [] = refl
-modify-length f zero (x ∷ l) = refl
-modify-length f (suc i) (x ∷ l) = ap suc (modify-length f i l)
-
--- sixteen rows and sensors
-record Sixteen (d : Drive) : Type 0 where
-  rows : length (d .rows) ≡ 16
-  sensors : length (d .sensors) ≡ 16
-
-settle-sixteen : (d : Drive) → Sixteen d → Sixteen (settleOf d)
-unfolding settleOf
-settle-sixteen d h = record { rows = length-map (d .rows) _ ∙ h .rows; sensors = h .sensors }
-
-tick-sixteen : (d : Drive) → Sixteen d → Sixteen (tickOf d)
-unfolding tickOf
-tick-sixteen d h = settle-sixteen _ (record { rows = h .rows; sensors = length-map (d .sensors) _ ∙ h .sensors })
-
-act-sixteen : (d : Drive) (e : Event) → Sixteen d → Sixteen (actOf d e)
-unfolding actOf
-act-sixteen d (reading s v) h = record { rows = h .rows; sensors = modify-length _ s (d .sensors) ∙ h .sensors }
-act-sixteen d (elapse n) h = ticks-keep tickOf Sixteen tick-sixteen n d h
-act-sixteen d (reset t) h = record { rows = length-map (d .rows) _ ∙ h .rows; sensors = either (eqb t 0) }
-  where
-    either : (b : Bool) → length (cond b (map powerCycleOf (d .sensors)) (d .sensors)) ≡ 16
-    either true = length-map (d .sensors) _ ∙ h .sensors
-    either false = h .sensors
-act-sixteen d (sensorSet s c) h = record { rows = h .rows; sensors = modify-length _ s (d .sensors) ∙ h .sensors }
-act-sixteen d (bandSet b c bytes) h = record { rows = modify-length _ b (d .rows) ∙ h .rows; sensors = h .sensors }
-act-sixteen d (geometry b start n) h = record { rows = h .rows; sensors = h .sensors }
-act-sixteen d (transfer w start n) h = h
-
-pub step-kept : (d : Drive) (e : Event) → Kept d → Kept (stepOf d e)
-unfolding stepOf
-step-kept d e k = go (eqb (answerOf d e) 0)
-  where
-    go : (b : Bool) → Kept (cond b (settleOf (actOf d e)) d)
-    go true =
-        let h = settle-sixteen (actOf d e) (act-sixteen d e (record { rows = k .rows; sensors = k .sensors })) in
-        record { rows = h .rows; sensors = h .sensors; settled = settle-twice (actOf d e) }
-    go false = k
-
--- ---- the loop's invariant: with the flag that tells whether some row is open
+-- ---- the loop's invariant: with the flag that is not set only where no row is open
 
 pub record Loop (s : List ℕ) (start count : ℕ) (fresh : Drive) (answers₀ stops₀ : List ℕ) (d : Drive) (answers stops : List ℕ) (at i : ℕ) (o : Bool) : Type 0 where
   pub going : Going s start count fresh answers₀ stops₀ d answers stops at i
   pub kept : Kept d
-  pub flag : o ≡ any isOpen (d .rows)
+  pub flag : o ≡ false → any isOpen (d .rows) ≡ false
 
-pub loop-begin : (s : List ℕ) (start count : ℕ) (fresh : Drive) (answers₀ stops₀ : List ℕ) (o : Bool) → Kept fresh → o ≡ any isOpen (fresh .rows)
-    → Loop s start count fresh answers₀ stops₀ fresh answers₀ stops₀ start 0 o
-loop-begin s start count fresh answers₀ stops₀ o k e = record { going = go-begin s start count fresh answers₀ stops₀; kept = k; flag = e }
+pub loop-begin : (s : List ℕ) (start count : ℕ) (fresh : Drive) (answers₀ stops₀ : List ℕ) → Kept fresh → Loop s start count fresh answers₀ stops₀ fresh answers₀ stops₀ start 0 true
+loop-begin s start count fresh answers₀ stops₀ k = record { going = go-begin s start count fresh answers₀ stops₀; kept = k; flag = λ e. absurd (true≢false e) }
 
 -- the event that is next
 pub record Next (s : List ℕ) (start count : ℕ) (fresh : Drive) (answers₀ stops₀ : List ℕ) (d : Drive) (answers stops : List ℕ) (at i : ℕ) (o : Bool) (k : Kind) (b c n : ℕ) : Type 0 where
@@ -255,22 +206,27 @@ pub next : {s : List ℕ} {start count : ℕ} {fresh : Drive} {answers₀ stops�
     → Next s start count fresh answers₀ stops₀ d answers stops at i o k b c n
 next {s = s} g h p w e = record { loop = g; some = h; long = p .0; wide = p .1; here = sym w ∙ ap (parsedIn s) e }
 
--- an event that may have changed the rows, with the flag made anew
-pub again-new : {s : List ℕ} {start count : ℕ} {fresh : Drive} {answers₀ stops₀ : List ℕ} {d : Drive} {answers stops : List ℕ} {at i : ℕ} {o : Bool} {k l : Kind} {b c n : ℕ} {a z a' z' : ℕ}
-    {x : Drive} {o' : Bool} → Next s start count fresh answers₀ stops₀ d answers stops at i o k b c n → k ≡ l → Ran d (eventOf l (tokensAt s b c)) a z x → a' ≡ a → z' ≡ z
-    → o' ≡ any isOpen (x .rows) → Loop s start count fresh answers₀ stops₀ x (set answers i a') (set stops i z') n (i + 1) o'
-again-new {s = s} {start = start} {count = count} {fresh = fresh} {answers₀ = answers₀} {stops₀ = stops₀} {d = d} {answers = answers} {stops = stops} {at = at} {i = i} {l = l} {b = b} {c = c} {n = n} {a = a} {z = z} {a' = a'} {z' = z'} {x = x} g ek v ea ez eo = record {
-  going = go-again s start count fresh answers₀ stops₀ d answers stops at i (g .loop .going) (eventOf l (tokensAt s b c)) n a z x (set answers i a') (set stops i z') (g .some) (g .long) (g .wide)
-      (g .here ∙ ap (λ (m : Kind). event (eventOf m (tokensAt s b c)) n) ek) v (ap (set answers i) ea) (ap (set stops i) ez);
-  kept = subst Kept (sym (v .drive)) (step-kept d (eventOf l (tokensAt s b c)) (g .loop .kept));
-  flag = eo;
-}
+-- the event stored, by the names that the values have where the ways meet
+pub stored-as : {s : List ℕ} {start count : ℕ} {fresh : Drive} {answers₀ stops₀ : List ℕ} {d : Drive} {answers stops : List ℕ} {at i : ℕ} {o : Bool} {k l : Kind} {b c n : ℕ} {a a' z z' : ℕ} {y y' : Drive}
+    {u u' due due' : Bool} {t t' : ℕ} → Next s start count fresh answers₀ stops₀ d answers stops at i o k b c n → k ≡ l → Half d (eventOf l (tokensAt s b c)) a z y u due t → y' ≡ y → u' ≡ u → a' ≡ a → z' ≡ z
+    → due' ≡ due → t' ≡ t → Half d (eventOf k (tokensAt s b c)) a' z' y' u' due' t'
+stored-as g ek h ey eo ea ez ed et = rw (ek, ey, eo, ea, ez, ed, et) h
 
--- an event that left the rows, and with them the flag
-pub again-same : {s : List ℕ} {start count : ℕ} {fresh : Drive} {answers₀ stops₀ : List ℕ} {d : Drive} {answers stops : List ℕ} {at i : ℕ} {o : Bool} {k l : Kind} {b c n : ℕ} {a z a' z' : ℕ}
-    {x : Drive} {o' : Bool} → Next s start count fresh answers₀ stops₀ d answers stops at i o k b c n → k ≡ l → Light d (eventOf l (tokensAt s b c)) a z x → a' ≡ a → z' ≡ z → o' ≡ o
-    → Loop s start count fresh answers₀ stops₀ x (set answers i a') (set stops i z') n (i + 1) o'
-again-same g ek v ea ez eo = again-new g ek (v .ran) ea ez (eo ∙ g .loop .flag ∙ ap (λ (m : List Row). any isOpen m) (sym (v .same)))
+-- it has sixteen rows
+pub stored-long : {d : Drive} {e : Event} {a z : ℕ} {y : Drive} {o due : Bool} {t : ℕ} → Kept d → Half d e a z y o due t → length (y .rows) ≡ 16
+unfolding finishOf settleOf
+stored-long {d = d} {e = e} {y = y} {t = t} k h =
+    sym (length-map (y .rows) (resetRow t)) ∙ sym (length-map (map (resetRow t) (y .rows)) _) ∙ ap (λ (x : Drive). length (x .rows)) (h .whole) ∙ step-kept d e k .rows
+
+-- the event run, by the names that the drive and the flag have where the ways meet
+pub again : {s : List ℕ} {start count : ℕ} {fresh : Drive} {answers₀ stops₀ : List ℕ} {d : Drive} {answers stops : List ℕ} {at i : ℕ} {o : Bool} {k : Kind} {b c n : ℕ} {a z : ℕ} {x x' : Drive}
+    {u u' : Bool} → Next s start count fresh answers₀ stops₀ d answers stops at i o k b c n → Ran d (eventOf k (tokensAt s b c)) a z x → (u ≡ false → any isOpen (x .rows) ≡ false) → x' ≡ x → u' ≡ u
+    → Loop s start count fresh answers₀ stops₀ x' (set answers i a) (set stops i z) n (i + 1) u'
+again {s = s} {start = start} {count = count} {fresh = fresh} {answers₀ = answers₀} {stops₀ = stops₀} {d = d} {answers = answers} {stops = stops} {at = at} {i = i} {k = k} {b = b} {c = c} {n = n} {a = a} {z = z} {x = x} g v f ex eu = rw (ex, eu) (record {
+  going = go-again s start count fresh answers₀ stops₀ d answers stops at i (g .loop .going) (eventOf k (tokensAt s b c)) n a z x (set answers i a) (set stops i z) (g .some) (g .long) (g .wide) (g .here) v refl refl;
+  kept = subst Kept (sym (v .drive)) (step-kept d (eventOf k (tokensAt s b c)) (g .loop .kept));
+  flag = f;
+})
 
 pub loop-done : (s : List ℕ) (start count : ℕ) (fresh : Drive) (answers₀ stops₀ : List ℕ) (d : Drive) (answers stops : List ℕ) (at i : ℕ) (o : Bool)
     → Loop s start count fresh answers₀ stops₀ d answers stops at i o → count ≤ i → Goes s start count fresh answers₀ stops₀ d answers stops
@@ -281,23 +237,9 @@ pub loop-bad : (s : List ℕ) (start count : ℕ) (fresh : Drive) (answers₀ st
     → Goes s start count fresh answers₀ stops₀ d answers stops
 loop-bad s start count fresh answers₀ stops₀ d answers stops at i o r g h e q = go-bad s start count fresh answers₀ stops₀ d answers stops at i (g .going) r d answers stops h e q
 
--- ---- the stops fit in a byte
-
-pub few-counted : {A : Type 0} (p : A → Bool) (l : List A) → count p l ≤ length l
-unfolding count
-few-counted p [] = omega arith
-few-counted p (x ∷ l) = omega (arith, one (p x), few-counted p l)
-  where
-    one : (t : Bool) → oneIf t ≤ 1
-    one true = omega arith
-    one false = omega arith
-
 -- "at most the number of timers running at its start", and a drive has sixteen
 pub elapse-fits : (d : Drive) (n : ℕ) (r : Elapsed) → Elapses n d r → r .stops ≤ length (d .sensors)
 elapse-fits d n r p = omega (arith, p .few, few-counted runs (d .sensors))
-
-pub passes-fits : (l : List Sensor) (n : ℕ) (r : Passed) → Passes n l r → r .stops ≤ length l
-passes-fits l n r p = omega (arith, p .few, few-counted runs l)
 
 -- ---- the place of a row that is there, in bytes
 

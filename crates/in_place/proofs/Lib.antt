@@ -1,2 +1,5 @@
+pub mod Parts
+pub mod Keeping
 pub mod Storing
+pub mod Closing
 pub mod Going

@@ -1,14 +1,89 @@
 // The events of a script, one after the other, on a drive that this function owns: an event stores one sensor, one row, the spans or the
-// sensors, and the drive goes by value only where rows may settle or be reset.
-ghost use mathlib.Core.Bool.{not, _&&_, Bool·beq};
+// sensors, and then the rows that are open may lock. The drive goes by value only where a timer ends while a row is open.
+ghost use mathlib.Core.Bool.{not, cond, _&&_, _||_, Bool·beq};
 ghost use mathlib.Core.Path.{_≡_};
 ghost use Prim.Native.Nat.{_≤_};
+ghost use lib.Dec.{ltb};
 ghost use lib.ListN.{length};
+ghost use Rattle.answer.specs.Numbers.{numberOf};
+ghost use Rattle.sensor.specs.Single.{readingAnswer, readingOf};
+ghost use Rattle.sensor.specs.Columns.{setAnswer, setOf};
+ghost use Rattle.geometry.specs.Events.{transferAnswer};
 ghost use Rattle.in_place.specs.Course.{Goes, Kept};
+ghost use Rattle.in_place.specs.Parts.{Moves, byStops, PassesBy};
 use drive::Drive;
 use drive::Kind;
+use geometry::Span;
 use script::EventRead;
 use sensor::Sensor;
+use sensor::SensorAnswer;
+use sensor::SensorColumns;
+
+// A reset type that is in no set: there is no reset.
+const NO_RESET: u64 = 255;
+
+// What an event makes of one sensor: what is stored, the answer's number, and whether the condition is another.
+struct Moved {
+    sensor: Sensor,
+    number: u8,
+    turned: bool,
+}
+
+// What an elapse makes of the sensors alone, the answer's number, and the stops as a byte.
+struct Passing {
+    sensors: [Sensor; 16],
+    number: u8,
+    stops: u8,
+}
+
+fn both(a: bool, b: bool) -> bool
+    ensures { λ r. ⌜ r ≡ (a && b) ⌝ }
+{
+    a && b
+}
+
+fn either(a: bool, b: bool) -> bool
+    ensures { λ r. ⌜ r ≡ (a || b) ⌝ }
+{
+    a || b
+}
+
+fn differ(a: bool, b: bool) -> bool
+    ensures { λ r. ⌜ r ≡ not (Bool·beq a b) ⌝ }
+{
+    if a {
+        return !b;
+    }
+    b
+}
+
+fn outcome(one: Sensor, r: SensorAnswer) -> Moved
+    ensures { λ m. ⌜ Moves (numberOf (r .answer)) (r .sensor) one m ⌝ }
+{
+    let answer = r.answer;
+    let new = r.sensor;
+    Moved {
+        sensor: new,
+        number: answer.number(),
+        turned: differ(one.condition, new.condition),
+    }
+}
+
+// A reading of one sensor.
+fn read(one: Sensor, value: u64) -> Moved
+    ensures { λ m. ⌜ Moves (readingAnswer value) (readingOf value one) one m ⌝ }
+{
+    let r = one.reading(value);
+    outcome(one, r)
+}
+
+// A Set of one sensor.
+fn set(one: Sensor, columns: SensorColumns) -> Moved
+    ensures { λ m. ⌜ Moves (setAnswer columns) (setOf columns one) one m ⌝ }
+{
+    let r = one.set(columns);
+    outcome(one, r)
+}
 
 // An elapse's stops as a byte: there are at most sixteen, as there are sensors.
 fn byte(stops: u64, sensors: [Sensor; 16]) -> u8
@@ -18,17 +93,73 @@ fn byte(stops: u64, sensors: [Sensor; 16]) -> u8
     stops as u8
 }
 
-// Whether a sensor's new condition can settle a row: some row is open, and the condition is another.
-fn settles(any_open: bool, before: bool, after: bool) -> bool
-    ensures { λ r. ⌜ r ≡ (any_open && not (Bool·beq before after)) ⌝ }
+// Whether an elapse goes from stop to stop with the bands settled at each: a timer ends in it while a row may be open.
+fn by_stops(any_open: bool, all: [Sensor; 16], ticks: u64) -> bool
+    ensures { λ r. ⌜ r ≡ byStops any_open ticks all ⌝ }
 {
+    if 4_294_967_295 < ticks {
+        return false;
+    }
     if any_open {
-        if before {
-            return !after;
-        }
-        return after;
+        let n = ticks as u32;
+        return sensors::quiet_ticks(all, n) < n;
     }
     false
+}
+
+// An elapse of the sensors alone.
+fn pass(all: [Sensor; 16], ticks: u64) -> Passing
+    ensures { λ r. ⌜ PassesBy ticks all r ⌝ }
+{
+    if 4_294_967_295 < ticks {
+        return Passing {
+            sensors: all,
+            number: 2,
+            stops: 0,
+        };
+    }
+    let n = ticks as u32;
+    if sensors::quiet_ticks(all, n) == n {
+        let after = sensors::lower_all(all, n);
+        return Passing {
+            sensors: after,
+            number: 0,
+            stops: 0,
+        };
+    }
+    let passed = sensors::pass_all(all, n);
+    let after = passed.sensors;
+    Passing {
+        sensors: after,
+        number: 0,
+        stops: byte(passed.stops, all),
+    }
+}
+
+// The number of a reset's answer.
+fn reset_number(kind: u64) -> u8
+    ensures { λ r. ⌜ r ≡ cond (ltb 2 kind) 2 0 ⌝ }
+{
+    if 2 < kind { 2 } else { 0 }
+}
+
+// The number of a transfer's answer, from the bands that are closed in its direction.
+fn transfer_number(
+    capacity: u64,
+    band_count: usize,
+    spans: [Span; 16],
+    closed: [bool; 16],
+    direction: u64,
+    first: u64,
+    blocks: u64,
+) -> u8
+    ensures { λ r. ⌜ r ≡ cond (ltb 1 direction) 2 (transferAnswer capacity «band_count» spans closed first blocks) ⌝ }
+{
+    if 1 < direction {
+        return 2;
+    }
+    let answer = geometry::transfer(capacity, band_count, spans, closed, first, blocks);
+    answer.number()
 }
 
 // Runs so many events from a place on, and writes a byte for each into both buffers.
@@ -45,9 +176,8 @@ pub fn run_events(
     ensures { λ r. ⌜ Goes (now (script .entry)) start count fresh (now (answers .entry)) (now (stops .entry)) r (now (answers .exit)) (now (stops .exit)) ⌝ }
 {
     let mut drive = fresh;
-    let rows = fresh.rows;
-    // Whether some row is open: else nothing settles, and no reset locks a side.
-    let mut any_open = bands::some_open(rows);
+    // Whether some row may be open: else nothing settles, and no reset locks a side.
+    let mut any_open = true;
     let mut at = start;
     let mut i = 0;
     while i < count {
@@ -57,6 +187,9 @@ pub fn run_events(
         at = next;
         let mut number: u8 = 0;
         let mut ended: u8 = 0;
+        // Whether rows may lock, and the type of the reset that is to lock them.
+        let mut due = false;
+        let mut locking = NO_RESET;
         match kind {
             Kind::Reading(sensor, value) => {
                 if drive::no_row(drive.sensor_count, sensor) {
@@ -64,52 +197,34 @@ pub fn run_events(
                 } else {
                     let j = sensor as usize;
                     let one = drive.sensors[j];
-                    let r = one.reading(value);
+                    let r = read(one, value);
                     let new = r.sensor;
                     drive.sensors[j] = new;
-                    let answer = r.answer;
-                    number = answer.number();
-                    if settles(any_open, one.condition, new.condition) {
-                        drive = drive.settle();
-                        let rows = drive.rows;
-                        any_open = bands::some_open(rows);
-                    }
+                    number = r.number;
+                    due = r.turned;
                 }
             }
             Kind::Elapse(ticks) => {
-                if 4_294_967_295 < ticks {
-                    number = 2;
+                let all = drive.sensors;
+                if by_stops(any_open, all, ticks) {
+                    let elapsed = elapse::elapse(drive, ticks as u32);
+                    let after = elapsed.drive;
+                    drive = after;
+                    ended = byte(elapsed.stops, all);
+                    due = true;
                 } else {
-                    let n = ticks as u32;
-                    let all = drive.sensors;
-                    if sensors::quiet_ticks(all, n) == n {
-                        let after = sensors::lower_all(all, n);
-                        drive.sensors = after;
-                    } else if any_open {
-                        let elapsed = elapse::elapse(drive, n);
-                        let after = elapsed.drive;
-                        drive = after;
-                        ended = byte(elapsed.stops, all);
-                        let rows = drive.rows;
-                        any_open = bands::some_open(rows);
-                    } else {
-                        let passed = sensors::pass_all(all, n);
-                        let after = passed.sensors;
-                        drive.sensors = after;
-                        ended = byte(passed.stops, all);
-                    }
+                    let passed = pass(all, ticks);
+                    let after = passed.sensors;
+                    drive.sensors = after;
+                    number = passed.number;
+                    ended = passed.stops;
                 }
             }
             Kind::Reset(kind) => {
-                if 2 < kind {
-                    number = 2;
-                } else if any_open {
-                    let reply = events::reset(drive, kind);
-                    let after = reply.drive;
-                    drive = after;
-                    let rows = drive.rows;
-                    any_open = bands::some_open(rows);
-                } else if kind == 0 {
+                number = reset_number(kind);
+                due = true;
+                locking = kind;
+                if kind == 0 {
                     let all = drive.sensors;
                     let after = sensors::power_cycle_all(all);
                     drive.sensors = after;
@@ -121,16 +236,11 @@ pub fn run_events(
                 } else {
                     let j = sensor as usize;
                     let one = drive.sensors[j];
-                    let r = one.set(columns);
+                    let r = set(one, columns);
                     let new = r.sensor;
                     drive.sensors[j] = new;
-                    let answer = r.answer;
-                    number = answer.number();
-                    if settles(any_open, one.condition, new.condition) {
-                        drive = drive.settle();
-                        let rows = drive.rows;
-                        any_open = bands::some_open(rows);
-                    }
+                    number = r.number;
+                    due = r.turned;
                 }
             }
             Kind::BandSet(band, columns) => {
@@ -148,8 +258,7 @@ pub fn run_events(
                     drive.rows[j] = new;
                     let answer = r.answer;
                     number = answer.number();
-                    let rows = drive.rows;
-                    any_open = bands::some_open(rows);
+                    any_open = either(any_open, new.open());
                 }
             }
             Kind::Geometry(band, first, length) => {
@@ -168,21 +277,33 @@ pub fn run_events(
                 number = answer.number();
             }
             Kind::Transfer(direction, first, blocks) => {
-                if 1 < direction {
-                    number = 2;
-                } else {
-                    let rows = drive.rows;
-                    let closed = bands::closed_sides(rows, drive::side(direction));
-                    let spans = drive.spans;
-                    let answer = geometry::transfer(
-                        drive.capacity,
-                        drive.band_count,
-                        spans,
-                        closed,
-                        first,
-                        blocks,
-                    );
-                    number = answer.number();
+                let rows = drive.rows;
+                let closed = bands::closed_sides(rows, drive::side(direction));
+                let spans = drive.spans;
+                number = transfer_number(
+                    drive.capacity,
+                    drive.band_count,
+                    spans,
+                    closed,
+                    direction,
+                    first,
+                    blocks,
+                );
+            }
+        }
+        if both(any_open, due) {
+            let all = drive.sensors;
+            let conditions = sensors::conditions(all, drive.sensor_count);
+            any_open = false;
+            for j in 0..16 {
+                let row = drive.rows[j];
+                if row.open() {
+                    if row.locks(locking, conditions) {
+                        let new = row.lock();
+                        drive.rows[j] = new;
+                    } else {
+                        any_open = true;
+                    }
                 }
             }
         }

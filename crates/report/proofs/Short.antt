@@ -26,7 +26,7 @@ use Rattle.reached.proofs.Reaching.{fresh-reached}
 use Rattle.script.specs.Fields.{Parsed, event, broken, eventAt}
 use Rattle.script.specs.Whole.{Header, header, noHeader, headerAt, Events, events, badFrom, before, andThen, eventsIn, eventsFrom, Script, accepted, bad, withEvents, withHeader, readScript}
 use Rattle.script.proofs.Few.{few-events}
-use Rattle.in_place.proofs.Going.{few-counted}
+use Rattle.in_place.proofs.Parts.{few-counted}
 use Rattle.in_place.specs.Course.{along, answersOf, stopsIn}
 use Rattle.run.proofs.Whole.{accepted-is}
 use Rattle.report.specs.Listing.{decimal, fields, line, lines, eventLine, eventLines, bandLine, bandLines, sensorLine, sensorLines, driveLines, badLine, listing}

@@ -1,4 +1,4 @@
-use Rattle.in_place.proofs.Storing.{fresh-kept}
+use Rattle.in_place.proofs.Keeping.{fresh-kept}
 use Rattle.run.proofs.Whole.{short-answers, short-stops, no-header, ran-first}
 use borrow.Author.Needs.{needs}
 use Rattle.run.proofs.run_first.Statement.{statement}

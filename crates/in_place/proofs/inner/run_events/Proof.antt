@@ -1,16 +1,25 @@
-use mathlib.Core.Path.{refl, sym, ap, _∙_}
-use Rattle.base.specs.Lists.{any}
-use Rattle.band.specs.Rows.{isOpen}
-use Rattle.drive.specs.declared.Drive.{Drive}
-use Rattle.events.proofs.Arms.{row-place}
-use Rattle.in_place.proofs.Going.{Loop, next, again-same, again-new, loop-begin, loop-done, loop-bad, elapse-fits, passes-fits, row-scaled}
-use Prim.Native.Nat.{_-_}
-use mathlib.Core.Logic.{⊎-elim}
+use Prim.Native.Nat.{_-_, _<_}
 use native.Mathlib.Omega.{arith}
+use mathlib.Core.Logic.{⊎-elim}
 use borrow.Author.Needs.{needs}
-use Rattle.in_place.proofs.Storing.{reading-absent, reading-settled, reading-kept, elapse-long, elapse-quiet, elapse-open, elapse-shut, reset-unknown, reset-open, reset-cycle, reset-other, set-absent, set-settled, set-kept, band-absent, part-ran, geometry-ran, transfer-unknown, transfer-ran}
+use Rattle.events.proofs.Arms.{row-place}
+use Rattle.in_place.proofs.Storing.{stops-short, half-idle, reading-absent, reading-half, elapse-half, pass-half, reset-cycle, reset-other, set-absent, set-half, band-absent, band-half, geometry-half, transfer-half}
+use Rattle.in_place.proofs.Closing.{Closing, close-begin, close-lock, close-stay, close-pass, close-as, closed-ran, closed-flag}
+use Rattle.in_place.proofs.Going.{Loop, loop-begin, loop-bad, loop-done, next, stored-as, stored-long, again, elapse-fits, row-scaled}
 use Rattle.in_place.proofs.inner.run_events.Statement.{statement}
 use Rattle.in_place.proofs.inner.run_events.Tie as tie
+
+-- the run's NO_RESET is in no set
+above : _<_ 2 255
+above = omega arith
+
+abbrev Inv-loop2 : tie.InvT-loop2
+Inv-loop2 script start count answers stops drive₀ any-open₀ at i place size next number ended due locking conditions j₀ drive any-open j =
+    Closing drive₀ locking conditions drive any-open j
+
+abbrev μ-loop2 : tie.MeasureT-loop2
+μ-loop2 script start count answers stops drive₀ any-open₀ at i place size next number ended due locking conditions j₀ drive any-open j =
+    16 - j
 
 abbrev Inv-loop : tie.InvT-loop
 Inv-loop script start count answers₀ stops₀ drive₀ any-open₀ at₀ i₀ answers stops drive any-open at i =
@@ -20,247 +29,250 @@ abbrev μ-loop : tie.MeasureT-loop
 μ-loop script start count answers₀ stops₀ drive₀ any-open₀ at₀ i₀ answers stops drive any-open at i =
     count - i
 
-some-open-requires : tie.Need-some-open-requires Inv-loop μ-loop
-some-open-requires c κs = search needs
-
-loop-holds : tie.Need-loop-holds Inv-loop μ-loop
+loop-holds : tie.Need-loop-holds Inv-loop2 μ-loop2 Inv-loop μ-loop
 loop-holds c = search (loop-begin, needs)
 
-next-event-requires : tie.Need-next-event-requires Inv-loop μ-loop
+next-event-requires : tie.Need-next-event-requires Inv-loop2 μ-loop2 Inv-loop μ-loop
 next-event-requires c κs = search needs
 
-enum-known-kind : tie.Need-enum-known-kind Inv-loop μ-loop
+enum-known-kind : tie.Need-enum-known-kind Inv-loop2 μ-loop2 Inv-loop μ-loop
 enum-known-kind c = search needs
 
-enum-told : tie.Need-enum-told Inv-loop μ-loop
+enum-told : tie.Need-enum-told Inv-loop2 μ-loop2 Inv-loop μ-loop
 enum-told c = search needs
 
-same-length : tie.Need-same-length Inv-loop μ-loop
+same-length : tie.Need-same-length Inv-loop2 μ-loop2 Inv-loop μ-loop
 same-length c = search needs
 
-same-length-2 : tie.Need-same-length-2 Inv-loop μ-loop
+same-length-2 : tie.Need-same-length-2 Inv-loop2 μ-loop2 Inv-loop μ-loop
 same-length-2 c = search needs
 
-returns : tie.Need-returns Inv-loop μ-loop
+returns : tie.Need-returns Inv-loop2 μ-loop2 Inv-loop μ-loop
 returns c = search (loop-bad, needs)
 
-enum-known-kind-2 : tie.Need-enum-known-kind-2 Inv-loop μ-loop
+enum-known-kind-2 : tie.Need-enum-known-kind-2 Inv-loop2 μ-loop2 Inv-loop μ-loop
 enum-known-kind-2 c = search needs
 
-no-row-requires : tie.Need-no-row-requires Inv-loop μ-loop
+no-row-requires : tie.Need-no-row-requires Inv-loop2 μ-loop2 Inv-loop μ-loop
 no-row-requires c κs = search needs
 
-mul-one : tie.Need-mul-one Inv-loop μ-loop
+mul-one : tie.Need-mul-one Inv-loop2 μ-loop2 Inv-loop μ-loop
 mul-one c = search (row-scaled, needs)
 
-element-copy-out-one : tie.Need-element-copy-out-one Inv-loop μ-loop
+element-copy-out-one : tie.Need-element-copy-out-one Inv-loop2 μ-loop2 Inv-loop μ-loop
 element-copy-out-one c = search row-place
 
-reading-requires : tie.Need-reading-requires Inv-loop μ-loop
-reading-requires c κs = search needs
+read-requires : tie.Need-read-requires Inv-loop2 μ-loop2 Inv-loop μ-loop
+read-requires c κs = search needs
 
-mul-new : tie.Need-mul-new Inv-loop μ-loop
+mul-new : tie.Need-mul-new Inv-loop2 μ-loop2 Inv-loop μ-loop
 mul-new c = search (row-scaled, needs)
 
-element-set-from-new : tie.Need-element-set-from-new Inv-loop μ-loop
+element-set-from-new : tie.Need-element-set-from-new Inv-loop2 μ-loop2 Inv-loop μ-loop
 element-set-from-new c = search row-place
 
-number-requires : tie.Need-number-requires Inv-loop μ-loop
-number-requires c κs = search needs
-
-settles-requires : tie.Need-settles-requires Inv-loop μ-loop
-settles-requires c κs = search needs
-
-settle-requires : tie.Need-settle-requires Inv-loop μ-loop
-settle-requires c κs = search needs
-
-some-open-requires-2 : tie.Need-some-open-requires-2 Inv-loop μ-loop
-some-open-requires-2 c κs = search needs
-
-enum-known-kind-3 : tie.Need-enum-known-kind-3 Inv-loop μ-loop
+enum-known-kind-3 : tie.Need-enum-known-kind-3 Inv-loop2 μ-loop2 Inv-loop μ-loop
 enum-known-kind-3 c = search needs
 
-cast-n : tie.Need-cast-n Inv-loop μ-loop
-cast-n c = search needs
+by-stops-requires : tie.Need-by-stops-requires Inv-loop2 μ-loop2 Inv-loop μ-loop
+by-stops-requires c κs = search needs
 
-quiet-ticks-requires : tie.Need-quiet-ticks-requires Inv-loop μ-loop
-quiet-ticks-requires c κs = search needs
+cast-elapse : tie.Need-cast-elapse Inv-loop2 μ-loop2 Inv-loop μ-loop
+cast-elapse c = let h = stops-short _ _ _ _ (c .before .by-stops .ensures) (c .if2 .taken) in search needs
 
-lower-all-requires : tie.Need-lower-all-requires Inv-loop μ-loop
-lower-all-requires c κs = search needs
-
-elapse-requires : tie.Need-elapse-requires Inv-loop μ-loop
+elapse-requires : tie.Need-elapse-requires Inv-loop2 μ-loop2 Inv-loop μ-loop
 elapse-requires c κs = search needs
 
-byte-requires : tie.Need-byte-requires Inv-loop μ-loop
+byte-requires : tie.Need-byte-requires Inv-loop2 μ-loop2 Inv-loop μ-loop
 byte-requires c κs = search elapse-fits
 
-some-open-requires-3 : tie.Need-some-open-requires-3 Inv-loop μ-loop
-some-open-requires-3 c κs = search needs
+pass-requires : tie.Need-pass-requires Inv-loop2 μ-loop2 Inv-loop μ-loop
+pass-requires c κs = search needs
 
-pass-all-requires : tie.Need-pass-all-requires Inv-loop μ-loop
-pass-all-requires c κs = search needs
-
-byte-requires-2 : tie.Need-byte-requires-2 Inv-loop μ-loop
-byte-requires-2 c κs = search passes-fits
-
-enum-known-kind-4 : tie.Need-enum-known-kind-4 Inv-loop μ-loop
+enum-known-kind-4 : tie.Need-enum-known-kind-4 Inv-loop2 μ-loop2 Inv-loop μ-loop
 enum-known-kind-4 c = search needs
 
-reset-requires : tie.Need-reset-requires Inv-loop μ-loop
-reset-requires c κs = search needs
+reset-number-requires : tie.Need-reset-number-requires Inv-loop2 μ-loop2 Inv-loop μ-loop
+reset-number-requires c κs = search needs
 
-some-open-requires-4 : tie.Need-some-open-requires-4 Inv-loop μ-loop
-some-open-requires-4 c κs = search needs
-
-power-cycle-all-requires : tie.Need-power-cycle-all-requires Inv-loop μ-loop
+power-cycle-all-requires : tie.Need-power-cycle-all-requires Inv-loop2 μ-loop2 Inv-loop μ-loop
 power-cycle-all-requires c κs = search needs
 
-enum-known-kind-5 : tie.Need-enum-known-kind-5 Inv-loop μ-loop
+enum-known-kind-5 : tie.Need-enum-known-kind-5 Inv-loop2 μ-loop2 Inv-loop μ-loop
 enum-known-kind-5 c = search needs
 
-no-row-requires-2 : tie.Need-no-row-requires-2 Inv-loop μ-loop
+no-row-requires-2 : tie.Need-no-row-requires-2 Inv-loop2 μ-loop2 Inv-loop μ-loop
 no-row-requires-2 c κs = search needs
 
-mul-one-2 : tie.Need-mul-one-2 Inv-loop μ-loop
+mul-one-2 : tie.Need-mul-one-2 Inv-loop2 μ-loop2 Inv-loop μ-loop
 mul-one-2 c = search (row-scaled, needs)
 
-element-copy-out-one-2 : tie.Need-element-copy-out-one-2 Inv-loop μ-loop
+element-copy-out-one-2 : tie.Need-element-copy-out-one-2 Inv-loop2 μ-loop2 Inv-loop μ-loop
 element-copy-out-one-2 c = search row-place
 
-set-requires : tie.Need-set-requires Inv-loop μ-loop
+set-requires : tie.Need-set-requires Inv-loop2 μ-loop2 Inv-loop μ-loop
 set-requires c κs = search needs
 
-mul-new-2 : tie.Need-mul-new-2 Inv-loop μ-loop
+mul-new-2 : tie.Need-mul-new-2 Inv-loop2 μ-loop2 Inv-loop μ-loop
 mul-new-2 c = search (row-scaled, needs)
 
-element-set-from-new-2 : tie.Need-element-set-from-new-2 Inv-loop μ-loop
+element-set-from-new-2 : tie.Need-element-set-from-new-2 Inv-loop2 μ-loop2 Inv-loop μ-loop
 element-set-from-new-2 c = search row-place
 
-number-requires-2 : tie.Need-number-requires-2 Inv-loop μ-loop
-number-requires-2 c κs = search needs
-
-settles-requires-2 : tie.Need-settles-requires-2 Inv-loop μ-loop
-settles-requires-2 c κs = search needs
-
-settle-requires-2 : tie.Need-settle-requires-2 Inv-loop μ-loop
-settle-requires-2 c κs = search needs
-
-some-open-requires-5 : tie.Need-some-open-requires-5 Inv-loop μ-loop
-some-open-requires-5 c κs = search needs
-
-enum-known-kind-6 : tie.Need-enum-known-kind-6 Inv-loop μ-loop
+enum-known-kind-6 : tie.Need-enum-known-kind-6 Inv-loop2 μ-loop2 Inv-loop μ-loop
 enum-known-kind-6 c = search needs
 
-no-row-requires-3 : tie.Need-no-row-requires-3 Inv-loop μ-loop
+no-row-requires-3 : tie.Need-no-row-requires-3 Inv-loop2 μ-loop2 Inv-loop μ-loop
 no-row-requires-3 c κs = search needs
 
-conditions-requires : tie.Need-conditions-requires Inv-loop μ-loop
+conditions-requires : tie.Need-conditions-requires Inv-loop2 μ-loop2 Inv-loop μ-loop
 conditions-requires c κs = search needs
 
-mul-one-3 : tie.Need-mul-one-3 Inv-loop μ-loop
+mul-one-3 : tie.Need-mul-one-3 Inv-loop2 μ-loop2 Inv-loop μ-loop
 mul-one-3 c = search (row-scaled, needs)
 
-element-copy-out-one-3 : tie.Need-element-copy-out-one-3 Inv-loop μ-loop
+element-copy-out-one-3 : tie.Need-element-copy-out-one-3 Inv-loop2 μ-loop2 Inv-loop μ-loop
 element-copy-out-one-3 c = search row-place
 
-tokens-at-requires : tie.Need-tokens-at-requires Inv-loop μ-loop
+tokens-at-requires : tie.Need-tokens-at-requires Inv-loop2 μ-loop2 Inv-loop μ-loop
 tokens-at-requires c κs = search needs
 
-set-requires-2 : tie.Need-set-requires-2 Inv-loop μ-loop
+set-requires-2 : tie.Need-set-requires-2 Inv-loop2 μ-loop2 Inv-loop μ-loop
 set-requires-2 c κs = search needs
 
-settle-requires-3 : tie.Need-settle-requires-3 Inv-loop μ-loop
-settle-requires-3 c κs = search needs
+settle-requires : tie.Need-settle-requires Inv-loop2 μ-loop2 Inv-loop μ-loop
+settle-requires c κs = search needs
 
-mul-new-3 : tie.Need-mul-new-3 Inv-loop μ-loop
+mul-new-3 : tie.Need-mul-new-3 Inv-loop2 μ-loop2 Inv-loop μ-loop
 mul-new-3 c = search (row-scaled, needs)
 
-element-set-from-new-3 : tie.Need-element-set-from-new-3 Inv-loop μ-loop
+element-set-from-new-3 : tie.Need-element-set-from-new-3 Inv-loop2 μ-loop2 Inv-loop μ-loop
 element-set-from-new-3 c = search row-place
 
-number-requires-3 : tie.Need-number-requires-3 Inv-loop μ-loop
-number-requires-3 c κs = search needs
+number-requires : tie.Need-number-requires Inv-loop2 μ-loop2 Inv-loop μ-loop
+number-requires c κs = search needs
 
-some-open-requires-6 : tie.Need-some-open-requires-6 Inv-loop μ-loop
-some-open-requires-6 c κs = search needs
+open-requires : tie.Need-open-requires Inv-loop2 μ-loop2 Inv-loop μ-loop
+open-requires c κs = search needs
 
-enum-known-kind-7 : tie.Need-enum-known-kind-7 Inv-loop μ-loop
+either-requires : tie.Need-either-requires Inv-loop2 μ-loop2 Inv-loop μ-loop
+either-requires c κs = search needs
+
+enum-known-kind-7 : tie.Need-enum-known-kind-7 Inv-loop2 μ-loop2 Inv-loop μ-loop
 enum-known-kind-7 c = search needs
 
-place-requires : tie.Need-place-requires Inv-loop μ-loop
+place-requires : tie.Need-place-requires Inv-loop2 μ-loop2 Inv-loop μ-loop
 place-requires c κs = search needs
 
-number-requires-4 : tie.Need-number-requires-4 Inv-loop μ-loop
-number-requires-4 c κs = search needs
+number-requires-2 : tie.Need-number-requires-2 Inv-loop2 μ-loop2 Inv-loop μ-loop
+number-requires-2 c κs = search needs
 
-enum-known-kind-8 : tie.Need-enum-known-kind-8 Inv-loop μ-loop
+enum-known-kind-8 : tie.Need-enum-known-kind-8 Inv-loop2 μ-loop2 Inv-loop μ-loop
 enum-known-kind-8 c = search needs
 
-side-requires : tie.Need-side-requires Inv-loop μ-loop
+side-requires : tie.Need-side-requires Inv-loop2 μ-loop2 Inv-loop μ-loop
 side-requires c κs = search needs
 
-closed-sides-requires : tie.Need-closed-sides-requires Inv-loop μ-loop
+closed-sides-requires : tie.Need-closed-sides-requires Inv-loop2 μ-loop2 Inv-loop μ-loop
 closed-sides-requires c κs = search needs
 
-transfer-requires : tie.Need-transfer-requires Inv-loop μ-loop
-transfer-requires c κs = search needs
+transfer-number-requires : tie.Need-transfer-number-requires Inv-loop2 μ-loop2 Inv-loop μ-loop
+transfer-number-requires c κs = search needs
 
-number-requires-5 : tie.Need-number-requires-5 Inv-loop μ-loop
-number-requires-5 c κs = search needs
+both-requires : tie.Need-both-requires Inv-loop2 μ-loop2 Inv-loop μ-loop
+both-requires c κs = search needs
 
-slice-write-answers : tie.Need-slice-write-answers Inv-loop μ-loop
+conditions-requires-2 : tie.Need-conditions-requires-2 Inv-loop2 μ-loop2 Inv-loop μ-loop
+conditions-requires-2 c κs = search needs
+
+loop2-holds : tie.Need-loop2-holds Inv-loop2 μ-loop2 Inv-loop μ-loop
+loop2-holds c = search close-begin
+
+mul-row : tie.Need-mul-row Inv-loop2 μ-loop2 Inv-loop μ-loop
+mul-row c = search needs
+
+element-copy-out-row : tie.Need-element-copy-out-row Inv-loop2 μ-loop2 Inv-loop μ-loop
+element-copy-out-row c = search needs
+
+open-requires-2 : tie.Need-open-requires-2 Inv-loop2 μ-loop2 Inv-loop μ-loop
+open-requires-2 c κs = search needs
+
+locks-requires : tie.Need-locks-requires Inv-loop2 μ-loop2 Inv-loop μ-loop
+locks-requires c κs = search needs
+
+lock-requires : tie.Need-lock-requires Inv-loop2 μ-loop2 Inv-loop μ-loop
+lock-requires c κs = search needs
+
+mul-new-4 : tie.Need-mul-new-4 Inv-loop2 μ-loop2 Inv-loop μ-loop
+mul-new-4 c = search needs
+
+element-set-from-new-4 : tie.Need-element-set-from-new-4 Inv-loop2 μ-loop2 Inv-loop μ-loop
+element-set-from-new-4 c = search needs
+
+add-j : tie.Need-add-j Inv-loop2 μ-loop2 Inv-loop μ-loop
+add-j c = search needs
+
+loop2-less : tie.Need-loop2-less Inv-loop2 μ-loop2 Inv-loop μ-loop
+loop2-less c = omega (arith, c .before .before .before .loop2-test .taken)
+
+loop2-again : tie.Need-loop2-again Inv-loop2 μ-loop2 Inv-loop μ-loop
+loop2-again c =
+    let g = c .before .before .before .before .loop2 .inv in
+    ⊎-elim (λ w. close-as (close-lock _ _ _ _ _ _ _ g _ _ (w .1 .ensures) (w .2 .taken) (w .3 .ensures)) (w .4) (w .5))
+    (⊎-elim (λ w. close-as (close-stay _ _ _ _ _ _ _ g _ (w .1 .ensures) (w .2 .left)) (w .3) (w .4))
+    (λ w. close-as (close-pass _ _ _ _ _ _ _ g _ (c .before .open2 .ensures) (w .0 .left)) (w .1) (w .2)))
+    (c .if7 .came)
+
+slice-write-answers : tie.Need-slice-write-answers Inv-loop2 μ-loop2 Inv-loop μ-loop
 slice-write-answers c = search needs
 
-slice-write-stops : tie.Need-slice-write-stops Inv-loop μ-loop
+slice-write-stops : tie.Need-slice-write-stops Inv-loop2 μ-loop2 Inv-loop μ-loop
 slice-write-stops c = search needs
 
-add-i : tie.Need-add-i Inv-loop μ-loop
+add-i : tie.Need-add-i Inv-loop2 μ-loop2 Inv-loop μ-loop
 add-i c = search needs
 
-loop-less : tie.Need-loop-less Inv-loop μ-loop
-loop-less c = omega (arith, c .before .before .before .before .before .loop-test .taken)
+loop-less : tie.Need-loop-less Inv-loop2 μ-loop2 Inv-loop μ-loop
+loop-less c = omega (arith, c .before .before .before .before .before .before .before .loop-test .taken)
 
-loop-again : tie.Need-loop-again Inv-loop μ-loop
+loop-again : tie.Need-loop-again Inv-loop2 μ-loop2 Inv-loop μ-loop
 loop-again c =
-    let g = next (c .before .before .before .before .before .before .loop .inv) (c .before .before .before .before .before .loop-test .taken) (c .before .before .before .before .before .before .before .before .before .before .before .before .pre .0) (c .before .before .before .before .next-event .ensures) (c .before .before .kind .given .1) in
-    ⊎-elim (λ w. again-same g (w .1 .given .1) (reading-absent _ _ _ _ _ (w .3 .ensures) (w .4 .taken) (w .5)) (w .7) (w .8) (w .6))
-    (⊎-elim (λ w. again-new g (w .1 .given .1) (reading-settled _ (g .loop .kept) _ _ (w .3 .ensures) (w .4 .left) _ _ _ _ (w .8 .ensures) (w .6 .ensures) _ _ refl (w .14 ∙ w .11 .ensures)) (w .16) (w .17) (w .15 ∙ w .13 .ensures ∙ ap (λ (x : Drive). any isOpen (x .rows)) (sym (w .14))))
-    (⊎-elim (λ w. again-same g (w .1 .given .1) (reading-kept _ (g .loop .kept) _ _ (w .3 .ensures) (w .4 .left) _ _ _ _ (w .8 .ensures) (w .6 .ensures) _ _ _ (g .loop .flag) (w .9 .ensures) (w .10 .left) (w .11)) (w .13) (w .14) (w .12))
-    (⊎-elim (λ w. again-same g (w .1 .given .1) (elapse-long _ _ _ (w .3 .taken) (w .4)) (w .6) (w .7) (w .5))
-    (⊎-elim (λ w. again-same g (w .1 .given .1) (elapse-quiet _ (g .loop .kept) _ _ _ _ (w .3 .left) (w .5 .ensures) (w .6 .taken) (w .7 .ensures) (w .8)) (w .10) (w .11) (w .9))
-    (⊎-elim (λ w. again-new g (w .1 .given .1) (elapse-open _ (g .loop .kept) _ _ _ _ (w .3 .left) (w .8 .ensures) (w .10 .ensures) (w .13)) (w .15) (w .16) (w .14 ∙ w .12 .ensures ∙ ap (λ (x : Drive). any isOpen (x .rows)) (sym (w .13))))
-    (⊎-elim (λ w. again-same g (w .1 .given .1) (elapse-shut _ (g .loop .kept) _ _ _ _ _ (w .3 .left) (g .loop .flag) (w .7 .left) (w .8 .ensures) (w .10 .ensures) (w .11)) (w .13) (w .14) (w .12))
-    (⊎-elim (λ w. again-same g (w .1 .given .1) (reset-unknown _ _ _ (w .3 .taken) (w .4)) (w .6) (w .7) (w .5))
-    (⊎-elim (λ w. again-new g (w .1 .given .1) (reset-open _ _ _ _ (w .3 .left) (w .5 .ensures) (w .9)) (w .11) (w .12) (w .10 ∙ w .8 .ensures ∙ ap (λ (x : Drive). any isOpen (x .rows)) (sym (w .9))))
-    (⊎-elim (λ w. again-same g (w .1 .given .1) (reset-cycle _ (g .loop .kept) _ _ _ _ (w .3 .left) (g .loop .flag) (w .4 .left) (w .5 .taken) (w .7 .ensures) (w .8)) (w .10) (w .11) (w .9))
-    (⊎-elim (λ w. again-same g (w .1 .given .1) (reset-other _ (g .loop .kept) _ _ _ (w .3 .left) (g .loop .flag) (w .4 .left) (w .5 .left) (w .6)) (w .8) (w .9) (w .7))
-    (⊎-elim (λ w. again-same g (w .1 .given .1) (set-absent _ _ _ _ _ (w .3 .ensures) (w .4 .taken) (w .5)) (w .7) (w .8) (w .6))
-    (⊎-elim (λ w. again-new g (w .1 .given .1) (set-settled _ (g .loop .kept) _ _ (w .3 .ensures) (w .4 .left) _ _ _ _ (w .8 .ensures) (w .6 .ensures) _ _ refl (w .14 ∙ w .11 .ensures)) (w .16) (w .17) (w .15 ∙ w .13 .ensures ∙ ap (λ (x : Drive). any isOpen (x .rows)) (sym (w .14))))
-    (⊎-elim (λ w. again-same g (w .1 .given .1) (set-kept _ (g .loop .kept) _ _ (w .3 .ensures) (w .4 .left) _ _ _ _ (w .8 .ensures) (w .6 .ensures) _ _ _ (g .loop .flag) (w .9 .ensures) (w .10 .left) (w .11)) (w .13) (w .14) (w .12))
-    (⊎-elim (λ w. again-same g (w .1 .given .1) (band-absent _ _ _ _ _ _ (w .3 .ensures) (w .4 .taken) (w .5)) (w .7) (w .8) (w .6))
-    (⊎-elim (λ w. again-new g (w .1 .given .1) (part-ran _ (g .loop .kept) _ _ _ _ _ _ _ _ _ _ _ (w .3 .ensures) (w .4 .left) (w .6 .ensures) (w .8 .ensures) (w .9 .ensures) (w .12 .ensures) (w .11 .ensures) (w .15)) (w .17) (w .18) (w .16 ∙ w .14 .ensures ∙ ap (λ (x : Drive). any isOpen (x .rows)) (sym (w .15))))
-    (⊎-elim (λ w. again-same g (w .1 .given .1) (geometry-ran _ (g .loop .kept) _ _ _ _ _ _ (w .4 .ensures) (w .6 .ensures) (w .7)) (w .9) (w .10) (w .8))
-    (⊎-elim (λ w. again-same g (w .1 .given .1) (transfer-unknown _ _ _ _ _ (w .3 .taken) (w .4)) (w .6) (w .7) (w .5))
-    (λ w. again-same g (w .1 .given .1) (transfer-ran _ (g .loop .kept) _ _ _ _ _ (w .8 .result) _ _ (w .3 .left) (w .5 .ensures) (w .6 .ensures) (w .8 .ensures) (w .9 .ensures) (w .10)) (w .12) (w .13) (w .11)))))))))))))))))))
-    (c .match2 .came)
+    let g = next (c .before .before .before .before .before .before .before .before .loop .inv) (c .before .before .before .before .before .before .before .loop-test .taken) (c .before .before .before .before .before .before .before .before .before .before .before .before .pre .0) (c .before .before .before .before .before .before .next-event .ensures) (c .before .before .before .before .kind .given .1) in
+    let h =
+    ⊎-elim (λ w. stored-as g (w .1 .given .1) (reading-absent _ (g .loop .kept) _ _ _ above (g .loop .flag) _ _ _ (w .3 .ensures) (w .4 .taken)) (w .5) (w .6) (w .7) (w .8) (w .9) (w .10))
+    (⊎-elim (λ w. stored-as g (w .1 .given .1) (reading-half _ (g .loop .kept) _ _ (w .3 .ensures) (w .4 .left) _ _ _ _ _ (w .6 .ensures) above (g .loop .flag)) (w .8) (w .9) (w .10) (w .11) (w .12) (w .13))
+    (⊎-elim (λ w. stored-as g (w .1 .given .1) (elapse-half _ (g .loop .kept) _ _ _ _ _ _ above (w .4 .ensures) (w .5 .taken) (w .6 .ensures) (w .8 .ensures)) (w .9) (w .10) (w .11) (w .12) (w .13) (w .14))
+    (⊎-elim (λ w. stored-as g (w .1 .given .1) (pass-half _ (g .loop .kept) _ _ _ _ _ _ above (g .loop .flag) (w .4 .ensures) (w .5 .left) (w .6 .ensures)) (w .8) (w .9) (w .10) (w .11) (w .12) (w .13))
+    (⊎-elim (λ w. stored-as g (w .1 .given .1) (reset-cycle _ (g .loop .kept) _ _ _ _ (g .loop .flag) (w .3 .ensures) (w .4 .taken) (w .6 .ensures)) (w .7) (w .8) (w .9) (w .10) (w .11) (w .12))
+    (⊎-elim (λ w. stored-as g (w .1 .given .1) (reset-other _ (g .loop .kept) _ _ _ (g .loop .flag) (w .3 .ensures) (w .4 .left)) (w .5) (w .6) (w .7) (w .8) (w .9) (w .10))
+    (⊎-elim (λ w. stored-as g (w .1 .given .1) (set-absent _ (g .loop .kept) _ _ _ above (g .loop .flag) _ _ _ (w .3 .ensures) (w .4 .taken)) (w .5) (w .6) (w .7) (w .8) (w .9) (w .10))
+    (⊎-elim (λ w. stored-as g (w .1 .given .1) (set-half _ (g .loop .kept) _ _ (w .3 .ensures) (w .4 .left) _ _ _ _ _ (w .6 .ensures) above (g .loop .flag)) (w .8) (w .9) (w .10) (w .11) (w .12) (w .13))
+    (⊎-elim (λ w. stored-as g (w .1 .given .1) (band-absent _ (g .loop .kept) _ _ _ above (g .loop .flag) _ _ _ _ (w .3 .ensures) (w .4 .taken)) (w .5) (w .6) (w .7) (w .8) (w .9) (w .10))
+    (⊎-elim (λ w. stored-as g (w .1 .given .1) (band-half _ (g .loop .kept) _ _ _ _ _ _ _ _ _ _ _ _ _ _ _ above (g .loop .flag) (w .3 .ensures) (w .4 .left) (w .6 .ensures) (w .8 .ensures) (w .9 .ensures) (w .11 .ensures) (w .12 .ensures) (w .13 .ensures) (w .14 .ensures)) (w .15) (w .16) (w .17) (w .18) (w .19) (w .20))
+    (⊎-elim (λ w. stored-as g (w .1 .given .1) (geometry-half _ (g .loop .kept) _ _ _ _ _ _ _ _ above (g .loop .flag) (w .4 .ensures) (w .6 .ensures)) (w .7) (w .8) (w .9) (w .10) (w .11) (w .12))
+    (λ w. stored-as g (w .1 .given .1) (transfer-half _ (g .loop .kept) _ _ _ _ _ _ _ _ _ above (g .loop .flag) (w .4 .ensures) (w .5 .ensures) (w .7 .ensures)) (w .8) (w .9) (w .10) (w .11) (w .12) (w .13))))))))))))
+    (c .before .before .match2 .came) in
+    ⊎-elim (λ w. let l = stored-long (g .loop .kept) h in again g (closed-ran l h (w .2 .ensures) (w .3 .inv) (w .4 .left)) (closed-flag l h (w .2 .ensures) (w .3 .inv) (w .4 .left)) (w .5) (w .6))
+    (λ w. again g (half-idle h (c .before .both .ensures) (w .0 .left)) (h .flag) (w .1) (w .2))
+    (c .if6 .came)
 
-same-length-3 : tie.Need-same-length-3 Inv-loop μ-loop
+same-length-3 : tie.Need-same-length-3 Inv-loop2 μ-loop2 Inv-loop μ-loop
 same-length-3 c = search needs
 
-same-length-4 : tie.Need-same-length-4 Inv-loop μ-loop
+same-length-4 : tie.Need-same-length-4 Inv-loop2 μ-loop2 Inv-loop μ-loop
 same-length-4 c = search needs
 
-returns-2 : tie.Need-returns-2 Inv-loop μ-loop
+returns-2 : tie.Need-returns-2 Inv-loop2 μ-loop2 Inv-loop μ-loop
 returns-2 c = search (loop-done, needs)
 
 pub run-events-spec : {M : Type 1} → statement M
 run-events-spec =
     tie.close
     (tie.spec
+    Inv-loop2
+    μ-loop2
     Inv-loop
     μ-loop
-    some-open-requires
     loop-holds
     next-event-requires
     enum-known-kind
@@ -272,25 +284,17 @@ run-events-spec =
     no-row-requires
     mul-one
     element-copy-out-one
-    reading-requires
+    read-requires
     mul-new
     element-set-from-new
-    number-requires
-    settles-requires
-    settle-requires
-    some-open-requires-2
     enum-known-kind-3
-    cast-n
-    quiet-ticks-requires
-    lower-all-requires
+    by-stops-requires
+    cast-elapse
     elapse-requires
     byte-requires
-    some-open-requires-3
-    pass-all-requires
-    byte-requires-2
+    pass-requires
     enum-known-kind-4
-    reset-requires
-    some-open-requires-4
+    reset-number-requires
     power-cycle-all-requires
     enum-known-kind-5
     no-row-requires-2
@@ -299,10 +303,6 @@ run-events-spec =
     set-requires
     mul-new-2
     element-set-from-new-2
-    number-requires-2
-    settles-requires-2
-    settle-requires-2
-    some-open-requires-5
     enum-known-kind-6
     no-row-requires-3
     conditions-requires
@@ -310,19 +310,32 @@ run-events-spec =
     element-copy-out-one-3
     tokens-at-requires
     set-requires-2
-    settle-requires-3
+    settle-requires
     mul-new-3
     element-set-from-new-3
-    number-requires-3
-    some-open-requires-6
+    number-requires
+    open-requires
+    either-requires
     enum-known-kind-7
     place-requires
-    number-requires-4
+    number-requires-2
     enum-known-kind-8
     side-requires
     closed-sides-requires
-    transfer-requires
-    number-requires-5
+    transfer-number-requires
+    both-requires
+    conditions-requires-2
+    loop2-holds
+    mul-row
+    element-copy-out-row
+    open-requires-2
+    locks-requires
+    lock-requires
+    mul-new-4
+    element-set-from-new-4
+    add-j
+    loop2-less
+    loop2-again
     slice-write-answers
     slice-write-stops
     add-i

@@ -1,0 +1,143 @@
+-- The loop over the rows, once an event is stored: a reset, if there is one, and then the bands settle.
+use mathlib.Core.Path.{_≡_, refl, sym, ap, ap₂, _∙_, subst}
+use Prim.Native.Nat.{ℕ, zero, suc, _+_, _≤_}
+use native.Mathlib.Numerals.{add-one}
+use native.Mathlib.Omega.{arith}
+use mathlib.Core.Bool.{Bool, true, false, not, _&&_, _||_, true≢false}
+use mathlib.Core.List.{List, [], _∷_, map}
+use lib.ListN.{length, getD, set, take, length-map}
+use Rattle.base.specs.Lists.{any}
+use Rattle.base.proofs.Cases.{neither}
+use Rattle.base.proofs.Lists.{mapTo, mapTo-all}
+use Rattle.sensors.specs.Sixteen.{conditionsBelow}
+use Rattle.band.specs.declared.Row.{Row}
+use Rattle.band.specs.Rows.{isOpen, withLocked, lockUnder, settleRow, resetRow, locksBy}
+use Rattle.band.proofs.Settling.{not-open, shut-reset, reset-settle}
+use Rattle.drive.specs.declared.Drive.{Drive}
+use Rattle.drive.specs.State.{withRows, conditionsOf, settleOf}
+use Rattle.drive.specs.Events.{Event}
+use Rattle.in_place.proofs.Storing.{Ran, Half, finishOf, set-same}
+
+-- ---- one row
+
+unfoldable pub closeRow : List Bool → ℕ → Row → Row
+closeRow cs t row = settleRow cs (resetRow t row)
+
+close-shut : (cs : List Bool) (t : ℕ) (row : Row) → isOpen row ≡ false → row ≡ closeRow cs t row
+unfolding closeRow
+close-shut cs t row e = not-open cs row (isOpen row) refl e ∙ ap (settleRow cs) (sym (shut-reset t row e))
+
+close-locks : (cs : List Bool) (t : ℕ) (row new : Row) → locksBy cs t row ≡ true → new ≡ lockUnder true row → new ≡ closeRow cs t row
+unfolding closeRow
+close-locks cs t row new e q = q ∙ ap (λ (v : Bool). lockUnder v row) (sym e) ∙ sym (reset-settle cs t row)
+
+close-stays : (cs : List Bool) (t : ℕ) (row : Row) → locksBy cs t row ≡ false → row ≡ closeRow cs t row
+unfolding closeRow
+close-stays cs t row e =
+    ap₂ (λ (a b : Bool). withLocked a b row) (none (row .«read_locked») (row .«read_lock_enabled»)) (none (row .«write_locked») (row .«write_lock_enabled»))
+    ∙ ap (λ (v : Bool). lockUnder v row) (sym e)
+    ∙ sym (reset-settle cs t row)
+  where
+    none : (locked enabled : Bool) → locked ≡ (locked || (enabled && false))
+    none true enabled = refl
+    none false true = refl
+    none false false = refl
+
+locked-shut : (row : Row) → isOpen (lockUnder true row) ≡ false
+locked-shut row = ap₂ (λ (a b : Bool). a || b) (side (row .«read_locked») (row .«read_lock_enabled»)) (side (row .«write_locked») (row .«write_lock_enabled»))
+  where
+    side : (locked enabled : Bool) → (enabled && not (locked || (enabled && true))) ≡ false
+    side locked false = refl
+    side true true = refl
+    side false true = refl
+
+-- ---- the loop
+
+-- the rows before j are closed, and none of them is open where the flag is not set
+pub record Closing (y : Drive) (t : ℕ) (cs : List Bool) (x : Drive) (o : Bool) (j : ℕ) : Type 0 where
+  pub drive : x ≡ withRows (mapTo (closeRow cs t) j (y .rows)) y
+  pub flag : o ≡ false → any isOpen (take j (x .rows)) ≡ false
+
+pub close-begin : (y : Drive) (t : ℕ) (cs : List Bool) (o : Bool) → Closing y t cs y o 0
+unfolding any
+close-begin y t cs o = record { drive = refl; flag = λ _. refl }
+
+map-next : {A : Type 0} (f : A → A) (i : ℕ) (l : List A) (d : A) → set (mapTo f i l) i (f (getD (mapTo f i l) i d)) ≡ mapTo f (suc i) l
+map-next f zero [] d = refl
+map-next f (suc i) [] d = refl
+map-next f zero (x ∷ l) d = refl
+map-next f (suc i) (x ∷ l) d = ap (λ (m : List _). f x ∷ m) (map-next f i l d)
+
+shut-next : (j : ℕ) (rows : List Row) (v : Row) → any isOpen (take j rows) ≡ false → isOpen v ≡ false → any isOpen (take (suc j) (set rows j v)) ≡ false
+unfolding any
+shut-next j [] v e f = refl
+shut-next zero (row ∷ rows) v e f = ap (λ (b : Bool). b || false) f
+shut-next (suc j) (row ∷ rows) v e f =
+    let h = neither (isOpen row) (any isOpen (take j rows)) e in
+    ap₂ (λ (a b : Bool). a || b) (h .0) (shut-next j rows v (h .1) f)
+
+shut-whole : (n : ℕ) (rows : List Row) → length rows ≤ n → any isOpen (take n rows) ≡ false → any isOpen rows ≡ false
+unfolding any
+shut-whole n [] h e = refl
+shut-whole zero (row ∷ rows) h e = absurd (omega (arith, h))
+shut-whole (suc n) (row ∷ rows) h e =
+    let f = neither (isOpen row) (any isOpen (take n rows)) e in
+    ap₂ (λ (a b : Bool). a || b) (f .0) (shut-whole n rows (omega (arith, h)) (f .1))
+
+module _ (y : Drive) (t : ℕ) (cs : List Bool) (x : Drive) (o : Bool) (j : ℕ) (d : Row) (g : Closing y t cs x o j) where
+  -- the next row closed, whatever is stored for it
+  next-row : (v : Row) (o' : Bool) → v ≡ closeRow cs t (getD (x .rows) j d) → (o' ≡ false → (o ≡ false) × (isOpen v ≡ false))
+      → Closing y t cs (withRows (set (x .rows) j v) x) o' (j + 1)
+  next-row v o' e f = record {
+    drive = ap (λ (w : Row). withRows (set (x .rows) j w) x) e
+        ∙ ap (λ (w : Drive). withRows (set (w .rows) j (closeRow cs t (getD (w .rows) j d))) w) (g .drive)
+        ∙ rw add-one (ap (λ (rows : List Row). withRows rows y) (map-next (closeRow cs t) j (y .rows) d));
+    flag = λ z. rw add-one (shut-next j (x .rows) v (g .flag (f z .0)) (f z .1));
+  }
+
+  same-row : (o' : Bool) → getD (x .rows) j d ≡ closeRow cs t (getD (x .rows) j d) → (o' ≡ false → (o ≡ false) × (isOpen (getD (x .rows) j d) ≡ false))
+      → Closing y t cs x o' (j + 1)
+  same-row o' e f =
+      subst (λ (rows : List Row). Closing y t cs (withRows rows x) o' (j + 1)) (set-same (x .rows) j d) (next-row (getD (x .rows) j d) o' e f)
+
+  pub close-lock : (w : Bool) (new : Row) → w ≡ locksBy cs t (getD (x .rows) j d) → w ≡ true → new ≡ lockUnder true (getD (x .rows) j d)
+      → Closing y t cs (withRows (set (x .rows) j new) x) o (j + 1)
+  close-lock w new q f r =
+      next-row new o (close-locks cs t (getD (x .rows) j d) new (sym q ∙ f) r) (λ z. (z, ap isOpen r ∙ locked-shut (getD (x .rows) j d)))
+
+  pub close-stay : (w : Bool) → w ≡ locksBy cs t (getD (x .rows) j d) → w ≡ false → Closing y t cs x true (j + 1)
+  close-stay w q f = same-row true (close-stays cs t (getD (x .rows) j d) (sym q ∙ f)) (λ z. absurd (true≢false z))
+
+  pub close-pass : (u : Bool) → u ≡ isOpen (getD (x .rows) j d) → u ≡ false → Closing y t cs x o (j + 1)
+  close-pass u p e =
+      let f : isOpen (getD (x .rows) j d) ≡ false = sym p ∙ e in
+      same-row o (close-shut cs t (getD (x .rows) j d) f) (λ z. (z, f))
+
+-- by the names that the drive and the flag have where the ways meet
+pub close-as : {y : Drive} {t : ℕ} {cs : List Bool} {x x' : Drive} {o o' : Bool} {j : ℕ} → Closing y t cs x o j → x' ≡ x → o' ≡ o → Closing y t cs x' o' j
+close-as g ex eo = rw (ex, eo) g
+
+map-twice : {A : Type 0} (f g : A → A) (l : List A) → map (λ x. f (g x)) l ≡ map f (map g l)
+map-twice f g [] = refl
+map-twice f g (x ∷ l) = ap (λ (m : List _). f (g x) ∷ m) (map-twice f g l)
+
+-- at the loop's end the event has run, and the flag is right
+module _ {d : Drive} {e : Event} {a z : ℕ} {y x : Drive} {o due o' : Bool} {t j : ℕ} {cs : List Bool} (k : length (y .rows) ≡ 16) (h : Half d e a z y o due t)
+    (ec : cs ≡ conditionsBelow (y .«sensor_count») (y .sensors)) (g : Closing y t cs x o' j) (m : 16 ≤ j) where
+  all-closed : x ≡ withRows (map (closeRow cs t) (y .rows)) y
+  all-closed = g .drive ∙ ap (λ (rows : List Row). withRows rows y) (mapTo-all (closeRow cs t) j (y .rows) (omega (arith, k, m)))
+
+  pub closed-ran : Ran d e a z x
+  unfolding finishOf settleOf conditionsOf closeRow
+  closed-ran = record {
+    answer = h .answer;
+    stops = h .stops;
+    drive = all-closed
+        ∙ ap (λ (rows : List Row). withRows rows y) (map-twice (settleRow cs) (resetRow t) (y .rows) ∙ ap (λ (w : List Bool). map (settleRow w) (map (resetRow t) (y .rows))) ec)
+        ∙ h .whole;
+  }
+
+  pub closed-flag : o' ≡ false → any isOpen (x .rows) ≡ false
+  closed-flag q =
+      shut-whole j (x .rows)
+      (let l : length (x .rows) ≡ 16 = ap (λ (w : Drive). length (w .rows)) all-closed ∙ length-map (y .rows) _ ∙ k in omega (arith, l, m)) (g .flag q)

@@ -1,0 +1,100 @@
+-- What the parts' code comes to: one sensor's events, and an elapse of the sensors alone.
+use mathlib.Core.Path.{_≡_, refl, sym, ap, ap₂, _∙_, subst}
+use Prim.Native.Nat.{ℕ, _≤_, _<_}
+use native.Mathlib.Omega.{arith}
+use mathlib.Core.Bool.{Bool, true, false, not, cond, _&&_, Bool·beq}
+use mathlib.Core.List.{List, [], _∷_, map}
+use lib.Dec.{ltb}
+use lib.ListN.{length}
+use borrow.Author.Tests.{lt-ltb, le-ltb}
+use Rattle.base.specs.Lists.{oneIf, any, count}
+use Rattle.base.proofs.Cases.{cond-true, cond-false}
+use Rattle.base.proofs.Jumps.{quiet-ticks, quiet-stops}
+use Rattle.answer.specs.declared.Answer.{Answer}
+use Rattle.answer.specs.Numbers.{numberOf}
+use Rattle.sensor.specs.declared.single.Sensor.{Sensor}
+use Rattle.sensor.specs.declared.single.SensorAnswer.{SensorAnswer}
+use Rattle.sensor.specs.Single.{tickOf, loweredBy, runs, endsNext, Answers}
+use Rattle.sensors.specs.declared.Passed.{Passed}
+use Rattle.sensors.specs.Sixteen.{quietTicks, Passes}
+use Rattle.sensors.proofs.Quiet.{AllQuiet, quietTicks-quiet, sensors-jump}
+use Rattle.in_place.specs.declared.inner.Moved.{Moved}
+use Rattle.in_place.specs.declared.inner.Passing.{Passing}
+use Rattle.in_place.specs.Parts.{Moves, byStops, PassesBy}
+
+-- ---- one sensor
+
+pub was-true : (a b : Bool) → a ≡ true → not b ≡ not (Bool·beq a b)
+was-true a true e = ap (λ (x : Bool). not (Bool·beq x true)) (sym e)
+was-true a false e = ap (λ (x : Bool). not (Bool·beq x false)) (sym e)
+
+pub was-false : (a b : Bool) → a ≡ false → b ≡ not (Bool·beq a b)
+was-false a true e = ap (λ (x : Bool). not (Bool·beq x true)) (sym e)
+was-false a false e = ap (λ (x : Bool). not (Bool·beq x false)) (sym e)
+
+pub moves : (n : ℕ) (new one : Sensor) (r : SensorAnswer) (m : Moved) → Answers n new r → Moves (numberOf (r .answer)) (r .sensor) one m → Moves n new one m
+moves n new one r m p q = record {
+  number-is = q .number-is ∙ p .answer;
+  sensor-is = q .sensor-is ∙ p .sensor;
+  turned-is = q .turned-is ∙ ap (λ (s : Sensor). not (Bool·beq (one .condition) (s .condition))) (p .sensor);
+}
+
+-- ---- an elapse
+
+module _ (n : ℕ) (l : List Sensor) where
+  pub stops-long : (o : Bool) → 4294967295 < n → false ≡ byStops o n l
+  unfolding byStops
+  stops-long o h = cond-true (ltb 4294967295 n) _ _ _ (lt-ltb 4294967295 n h) refl
+
+  pub stops-open : (o t : Bool) (q : ℕ) → n ≤ 4294967295 → o ≡ true → q ≡ quietTicks n l → t ≡ ltb q n → t ≡ byStops o n l
+  unfolding byStops
+  stops-open o t q h e eq et =
+      cond-false (ltb 4294967295 n) _ _ _ (le-ltb 4294967295 n h)
+      (et ∙ ap₂ (λ (b : Bool) (k : ℕ). b && ltb k n) (sym e) eq)
+
+  pub stops-shut : (o : Bool) → n ≤ 4294967295 → o ≡ false → false ≡ byStops o n l
+  unfolding byStops
+  stops-shut o h e =
+      cond-false (ltb 4294967295 n) _ _ _ (le-ltb 4294967295 n h) (ap (λ (b : Bool). b && ltb (quietTicks n l) n) (sym e))
+
+  pub pass-long : (r : Passing) → 4294967295 < n → r .sensors ≡ l → r .number ≡ 2 → r .stops ≡ 0 → PassesBy n l r
+  pass-long r h es en ez =
+      let t : ltb 4294967295 n ≡ true = lt-ltb 4294967295 n h in
+      record { number-is = cond-true _ _ _ _ t en; sensors-are = cond-true _ _ _ _ t es; stops-are = cond-true _ _ _ _ t ez }
+
+  pub pass-quiet : (r : Passing) (q : ℕ) (m : List Sensor) → n ≤ 4294967295 → q ≡ quietTicks n l → q ≡ n → m ≡ map (loweredBy n) l → r .sensors ≡ m → r .number ≡ 0 → r .stops ≡ 0
+      → PassesBy n l r
+  pass-quiet r q m h eq eqn em es en ez =
+      let t : ltb 4294967295 n ≡ false = le-ltb 4294967295 n h in
+      let c : AllQuiet n l = subst (λ (k : ℕ). AllQuiet k l) (sym eq ∙ eqn) (quietTicks-quiet n l) in
+      record {
+        number-is = cond-false _ _ _ _ t en;
+        sensors-are = cond-false _ _ _ _ t (es ∙ em ∙ sym (quiet-ticks (map tickOf) (any endsNext) (λ k l. map (loweredBy k) l) AllQuiet sensors-jump n l c));
+        stops-are = cond-false _ _ _ _ t (ez ∙ sym (quiet-stops (map tickOf) (any endsNext) (λ k l. map (loweredBy k) l) AllQuiet sensors-jump n l c));
+      }
+
+  pub pass-on : (r : Passing) (p : Passed) (z : ℕ) → n ≤ 4294967295 → Passes n l p → z ≡ p .stops → r .sensors ≡ p .sensors → r .number ≡ 0 → r .stops ≡ z → PassesBy n l r
+  pass-on r p z h w e es en ez =
+      let t : ltb 4294967295 n ≡ false = le-ltb 4294967295 n h in
+      record {
+        number-is = cond-false _ _ _ _ t en;
+        sensors-are = cond-false _ _ _ _ t (es ∙ w .sensors);
+        stops-are = cond-false _ _ _ _ t (ez ∙ e ∙ w .stops);
+      }
+
+-- the stops fit a byte: there are at most as many as sensors
+pub few-counted : {A : Type 0} (f : A → Bool) (l : List A) → count f l ≤ length l
+unfolding count
+few-counted f [] = omega arith
+few-counted f (x ∷ l) = omega (arith, few-counted f l, one (f x))
+  where
+    one : (b : Bool) → oneIf b ≤ 1
+    one true = omega arith
+    one false = omega arith
+
+pub passes-fits : (l : List Sensor) (n : ℕ) (r : Passed) → Passes n l r → r .stops ≤ length l
+passes-fits l n r p = omega (arith, p .few, few-counted runs l)
+
+-- a transfer's answer, where the direction is one
+pub asked-is : (w a n : ℕ) (r : Answer) → w ≤ 1 → numberOf r ≡ n → a ≡ numberOf r → a ≡ cond (ltb 1 w) 2 n
+asked-is w a n r h e q = cond-false (ltb 1 w) _ _ _ (le-ltb 1 w h) (q ∙ e)

@@ -1,0 +1,13 @@
+use borrow.Author.Needs.{needs}
+use Rattle.base.proofs.Cases.{cases}
+use Rattle.in_place.proofs.inner.reset_number.Statement.{statement}
+use Rattle.in_place.proofs.inner.reset_number.Tie as tie
+
+returns : tie.Need-returns
+returns c = search (cases, needs)
+
+returns-2 : tie.Need-returns-2
+returns-2 c = search (cases, needs)
+
+pub reset-number-spec : {M : Type 1} → statement M
+reset-number-spec = tie.close (tie.spec returns returns-2)

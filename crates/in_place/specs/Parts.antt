@@ -1,0 +1,33 @@
+-- What the run takes from its parts: one sensor's events, and an elapse of the sensors alone.
+use Prim.Native.Nat.{ℕ}
+use mathlib.Core.Path.{_≡_}
+use mathlib.Core.Bool.{Bool, false, not, cond, _&&_, Bool·beq}
+use mathlib.Core.List.{List, map}
+use lib.Dec.{ltb}
+use Rattle.base.specs.Lists.{any}
+use Rattle.base.specs.Ticks.{ticks, stops}
+use Rattle.sensor.specs.declared.single.Sensor.{Sensor}
+use Rattle.sensor.specs.Single.{tickOf, endsNext}
+use Rattle.sensors.specs.Sixteen.{quietTicks}
+use Rattle.in_place.specs.declared.inner.Moved.{Moved}
+use Rattle.in_place.specs.declared.inner.Passing.{Passing}
+
+-- an event on one sensor: the answer's number, what is stored, and whether its condition is another then
+pub record Moves (answer : ℕ) (new one : Sensor) (r : Moved) : Type 0 where
+  pub number-is : r .number ≡ answer
+  pub sensor-is : r .sensor ≡ new
+  pub turned-is : r .turned ≡ not (Bool·beq (one .condition) (new .condition))
+
+-- "2 out of range": an elapse has at most 4,294,967,295 ticks
+abbrev pub tooLong : ℕ → Bool
+tooLong n = ltb 4294967295 n
+
+-- a timer ends in an elapse while a row may be open
+unfoldable pub byStops : Bool → ℕ → List Sensor → Bool
+byStops mayBeOpen n l = cond (tooLong n) false (mayBeOpen && ltb (quietTicks n l) n)
+
+-- an elapse of the sensors alone: "n ticks", and "the ticks at which some timer ends"
+pub record PassesBy (n : ℕ) (l : List Sensor) (r : Passing) : Type 0 where
+  pub number-is : r .number ≡ cond (tooLong n) 2 0
+  pub sensors-are : r .sensors ≡ cond (tooLong n) l (ticks (map tickOf) n l)
+  pub stops-are : r .stops ≡ cond (tooLong n) 0 (stops (map tickOf) (any endsNext) n l)
