@@ -157,13 +157,19 @@ impl Drive {
     }
 
     // The drive once its bands have settled.
-    pub fn settle(self) -> Drive
+    pub fn settle(mut self) -> Drive
         ensures { λ r. ⌜ r ≡ settleOf self ⌝ }
     {
-        let conditions = self.conditions();
-        let rows = self.rows;
-        let settled = bands::settle_all(rows, conditions);
-        self.with_rows(settled)
+        let all = self.sensors;
+        let conditions = sensors::conditions(all, self.sensor_count);
+        for i in 0..16 {
+            let row = self.rows[i];
+            if row.open() {
+                let settled = row.settle(conditions);
+                self.rows[i] = settled;
+            }
+        }
+        self
     }
 }
 
