@@ -21,22 +21,21 @@ pub record Settled (d₀ : Drive) (cs : List Bool) (d : Drive) (i : ℕ) : Type 
   pub rows : Mapped (settleRow cs) 16 (d₀ .rows) (d .rows) i
   pub rest : d ≡ withRows (d .rows) d₀
 
-pub settle-begin : (d : Drive) (cs : List Bool) → cs ≡ conditionsBelow (d .«sensor_count») (d .sensors) → length (d .rows) ≡ 16 → Settled d cs d 0
-unfolding conditionsOf
+pub settle-begin : (d : Drive) (cs : List Bool) → cs ≡ conditionsOf d → length (d .rows) ≡ 16 → Settled d cs d 0
 settle-begin d cs e h = record { conditions = e; rows = map-begin (settleRow cs) 16 (d .rows) h; rest = refl }
 
 -- a turn: the row is settled and stored where it is open, and left where it is not
-pub settle-open : (d₀ d x : Drive) (cs : List Bool) (i : ℕ) (z row : Row) → Settled d₀ cs d i → i < 16 → row ≡ settleRow cs (getD (d .rows) i z)
+pub row-settles : (d₀ d x : Drive) (cs : List Bool) (i : ℕ) (z row : Row) → Settled d₀ cs d i → i < 16 → row ≡ settleRow cs (getD (d .rows) i z)
     → x ≡ withRows (set (d .rows) i row) d → Settled d₀ cs x (i + 1)
-settle-open d₀ d x cs i z row s h e q = rw q (record {
+row-settles d₀ d x cs i z row s h e q = rw q (record {
   conditions = s .conditions;
   rows = map-again (settleRow cs) 16 (d₀ .rows) (d .rows) i row z (s .rows) h e;
   rest = ap (λ (y : Drive). withRows (set (d .rows) i row) y) (s .rest);
 })
 
-pub settle-shut : (d₀ d x : Drive) (cs : List Bool) (i : ℕ) (z : Row) (t : Bool) → Settled d₀ cs d i → i < 16 → t ≡ isOpen (getD (d .rows) i z)
+pub row-stays : (d₀ d x : Drive) (cs : List Bool) (i : ℕ) (z : Row) (t : Bool) → Settled d₀ cs d i → i < 16 → t ≡ isOpen (getD (d .rows) i z)
     → t ≡ false → x ≡ d → Settled d₀ cs x (i + 1)
-settle-shut d₀ d x cs i z t s h p e q = rw q (record {
+row-stays d₀ d x cs i z t s h p e q = rw q (record {
   conditions = s .conditions;
   rows = map-skip (settleRow cs) 16 (d₀ .rows) (d .rows) i z (s .rows) h (not-open cs (getD (d .rows) i z) t p e);
   rest = s .rest;

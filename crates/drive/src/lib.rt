@@ -156,12 +156,11 @@ impl Drive {
         sensors::conditions(all, self.sensor_count)
     }
 
-    // The drive once its bands have settled.
+    // The drive once its bands have settled: only an open row can change.
     pub fn settle(mut self) -> Drive
         ensures { λ r. ⌜ r ≡ settleOf self ⌝ }
     {
-        let all = self.sensors;
-        let conditions = sensors::conditions(all, self.sensor_count);
+        let conditions = self.conditions();
         for i in 0..16 {
             let row = self.rows[i];
             if row.open() {

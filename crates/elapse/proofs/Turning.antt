@@ -3,12 +3,11 @@ use mathlib.Core.Path.{_≡_, refl, sym, ap, _∙_}
 use mathlib.Core.List.{map}
 use Prim.Native.Nat.{ℕ, _-_, _<_, _≤_}
 use native.Mathlib.Omega.{arith}
-use Rattle.base.specs.Lists.{any}
 use Rattle.base.specs.Ticks.{Turns}
 use Rattle.base.specs.Ticks.{stops as stopsIn}
 use Rattle.base.proofs.Turns.{Turnable, QuietMost, Running, run-state, run-stops}
 use Rattle.base.proofs.Turns.{turned as turned-any}
-use Rattle.sensor.specs.Single.{loweredBy, endsNext}
+use Rattle.sensor.specs.Single.{loweredBy}
 use Rattle.sensor.specs.Single.{tickOf as sensorTick}
 use Rattle.sensors.specs.declared.Turn.{Turn}
 use Rattle.sensors.specs.Sixteen.{quietTicks, tickAndQuiet, turnOf}
@@ -51,8 +50,8 @@ turned m d j r h e q =
     let k : ℕ = quietTicks (m - 1) (map sensorTick (d .sensors)) in
     let p : r ≡ tickAndQuiet (m - 1) (d .sensors) = some-turn m (d .sensors) r h e in
     let ej : j ≡ jumpOf k (tickOf d) = q ∙ ap (λ (x : Turn). settleOf (withSensors (x .sensors) d)) p ∙ settled-late k d in
-    rw p
-    (turned-any tickOf stopNext jumpOf running Calm turnable m k d (tickOf d) j h refl (calm-most (m - 1) k (tickOf d) (tick-settled d) (ap (quietTicks (m - 1)) (sym (ticked d)))) ej _ _ refl refl)
+    let calm = calm-most (m - 1) k (tickOf d) (tick-settled d) (ap (quietTicks (m - 1)) (sym (ticked d))) in
+    rw p (turned-any tickOf stopNext jumpOf running Calm turnable m k d (tickOf d) j h refl calm ej _ _ refl refl)
 
 pub run-done : (n : ℕ) (d₀ d : Drive) (left stops : ℕ) → Running tickOf stopNext n d₀ d left stops → left ≤ 0
     → Elapses n d₀ (record { drive = d; stops = stops })

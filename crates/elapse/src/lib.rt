@@ -8,7 +8,8 @@ pub struct Elapsed {
     pub stops: u64,
 }
 
-// n ticks, in at most one turn more than there are stops.
+// n ticks, in at most one turn more than there are stops. The quiet ticks of a turn change no condition, so the bands settle once after all
+// of a turn.
 pub fn elapse(drive: Drive, n: u32) -> Elapsed
     ensures { λ r. ⌜ Elapses n drive r ⌝ }
 {

@@ -1,6 +1,6 @@
 -- Ticks of the sensors from stop to stop.
-use mathlib.Core.Path.{_≡_, refl, sym, ap, subst, _∙_}
-use mathlib.Core.Bool.{Bool, true, cond}
+use mathlib.Core.Path.{_≡_, refl, sym, subst, _∙_}
+use mathlib.Core.Bool.{Bool, true, false}
 use mathlib.Core.List.{List, map}
 use mathlib.Core.Logic.{_⊎_, _≢_}
 use Prim.Native.Nat.{ℕ, _-_, _<_, _≤_}
@@ -55,7 +55,9 @@ turned-none n l e = cond-true (eqb n 0) _ _ _ (eq-eqb n 0 e) refl
 -- what a turn of some ticks is
 pub some-turn : (n : ℕ) (l : List Sensor) (r : Turn) → 0 < n → r ≡ turnOf n l → r ≡ tickAndQuiet (n - 1) l
 unfolding turnOf
-some-turn n l r h e = e ∙ ap (λ (b : Bool). cond b (record { sensors = l; left = 0; stops = 0 }) (tickAndQuiet (n - 1) l)) (ne-eqb n 0 (λ z. omega arith))
+some-turn n l r h e =
+    let some : eqb n 0 ≡ false = ne-eqb n 0 (λ z. omega arith) in
+    e ∙ sym (cond-false (eqb n 0) (record { sensors = l; left = 0; stops = 0 }) _ _ some refl)
 
 -- what is left to do after it
 pub turn-turns : (n : ℕ) (l : List Sensor) (r : Turn) → 0 < n → r ≡ turnOf n l

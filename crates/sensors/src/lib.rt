@@ -89,7 +89,11 @@ pub fn turn_once(sensors: [Sensor; 16], left: u32) -> Turn
     ensures { λ r. ⌜ r ≡ turnOf left sensors ⌝ }
 {
     if left == 0 {
-        return Turn { sensors, left: 0, stops: 0 };
+        return Turn {
+            sensors,
+            left: 0,
+            stops: 0,
+        };
     }
     let stop = some_ends(sensors);
     let ticked = tick_all(sensors);

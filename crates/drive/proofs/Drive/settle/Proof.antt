@@ -2,7 +2,7 @@ use borrow.Author.Needs.{needs}
 use mathlib.Core.Logic.{⊎-elim}
 use Rattle.base.proofs.Lists.{unmapped}
 use Prim.Native.Nat.{_-_}
-use Rattle.drive.proofs.Settling.{Settled, settle-begin, settle-open, settle-shut, settle-done}
+use Rattle.drive.proofs.Settling.{Settled, settle-begin, row-settles, row-stays, settle-done}
 use Rattle.drive.proofs.Drive.settle.Statement.{statement}
 use Rattle.drive.proofs.Drive.settle.Tie as tie
 
@@ -43,7 +43,7 @@ loop-less : tie.Need-loop-less Inv-loop μ-loop
 loop-less c = search needs
 
 loop-again : tie.Need-loop-again Inv-loop μ-loop
-loop-again c = ⊎-elim (λ w. search settle-open) (λ w. search settle-shut) (c .if1 .came)
+loop-again c = ⊎-elim (λ w. search row-settles) (λ w. search row-stays) (c .if1 .came)
 
 returns : tie.Need-returns Inv-loop μ-loop
 returns c = search settle-done
