@@ -21,15 +21,17 @@ pub struct Turn {
     pub stops: u64,
 }
 
-// Each sensor after a tick.
+// Each sensor after a tick, which changes those alone whose timer runs.
 pub fn tick_all(sensors: [Sensor; 16]) -> [Sensor; 16]
     ensures { λ r. ⌜ r ≡ map tickOf sensors ⌝ }
 {
     let mut out = sensors;
     for i in 0..16 {
         let s = out[i];
-        let ticked = s.tick();
-        out[i] = ticked;
+        if s.runs() {
+            let ticked = s.tick();
+            out[i] = ticked;
+        }
     }
     out
 }
