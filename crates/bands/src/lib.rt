@@ -1,23 +1,10 @@
-// The locking rows of a drive (document 01, 'Bands'), by value: what settling and a reset make of all sixteen, and which are closed.
+// The locking rows of a drive (document 01, 'Bands'), by value: what a reset makes of all sixteen, which are closed, and whether one is open.
 ghost use mathlib.Core.Path.{_≡_};
 ghost use mathlib.Core.List.{map};
 ghost use Rattle.base.specs.Lists.{any};
-ghost use Rattle.band.specs.Rows.{settleRow, resetRow, closedOn, isOpen};
+ghost use Rattle.band.specs.Rows.{resetRow, closedOn, isOpen};
 use band::Row;
 use band::Side;
-
-// Each row once it has settled under the sixteen conditions.
-pub fn settle_all(rows: [Row; 16], conditions: [bool; 16]) -> [Row; 16]
-    ensures { λ r. ⌜ r ≡ map (settleRow conditions) rows ⌝ }
-{
-    let mut out = rows;
-    for i in 0..16 {
-        let row = out[i];
-        let settled = row.settle(conditions);
-        out[i] = settled;
-    }
-    out
-}
 
 // Each row after a reset of a type.
 pub fn reset_all(rows: [Row; 16], kind: u64) -> [Row; 16]

@@ -40,6 +40,12 @@ module _ {A : Type 0} (f : A → A) where
 pub unmapped {ℓ} : {A : Type 0} {B : Type ℓ} (f : A → B) (l : List A) (n : ℕ) → length (map f l) ≡ n → length l ≡ n
 unmapped f l n e = sym (length-map l f) ∙ e
 
+-- an element stored where it stands
+pub set-same : {A : Type 0} (l : List A) (i : ℕ) (d : A) → set l i (getD l i d) ≡ l
+set-same [] i d = refl
+set-same (x ∷ l) zero d = refl
+set-same (x ∷ l) (suc i) d = ap {B = List _} (λ r. x ∷ r) (set-same l i d)
+
 -- at most one of two tests that stand for one
 pub or-le : (a b : Bool) → oneIf (a || b) ≤ oneIf a + oneIf b
 or-le true b = omega arith

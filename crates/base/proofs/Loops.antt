@@ -1,5 +1,5 @@
 -- Loops over an array, an element a turn: each record is what the loop knows after i turns, with the laws of its start, a turn and its end.
-use mathlib.Core.Path.{_≡_, refl, sym, ap, _∙_}
+use mathlib.Core.Path.{_≡_, refl, sym, ap, _∙_, subst}
 use Prim.Native.Nat.{ℕ, suc, _+_, _≤_, _<_}
 use native.Mathlib.Numerals.{add-one}
 use native.Mathlib.Omega.{arith}
@@ -8,7 +8,7 @@ use mathlib.Core.List.{List, map, foldl}
 use lib.ListN.{length, getD, set, drop}
 use lib.Seq.{drop-cons, drop-length}
 use Rattle.base.specs.Lists.{oneIf, any, count}
-use Rattle.base.proofs.Lists.{mapTo, mapTo-next, mapTo-all, oneIf-le, fillTo, fillTo-next, fillTo-all}
+use Rattle.base.proofs.Lists.{mapTo, mapTo-next, mapTo-all, set-same, oneIf-le, fillTo, fillTo-next, fillTo-all}
 
 -- f at each element of an array, in place
 module _ {A : Type 0} (f : A → A) where
@@ -23,6 +23,10 @@ module _ {A : Type 0} (f : A → A) where
   pub map-again : (n : ℕ) (l m : List A) (i : ℕ) (v d : A) → Mapped n l m i → i < n → v ≡ f (getD m i d) → Mapped n l (set m i v) (i + 1)
   map-again n l m i v d t h q =
       record { low = omega arith; long = t .long; same = mapTo-next f i l m v d (t .same) q (omega (arith, t .long)) }
+
+  -- a turn that stores nothing, since f leaves the element as it is
+  pub map-skip : (n : ℕ) (l m : List A) (i : ℕ) (d : A) → Mapped n l m i → i < n → getD m i d ≡ f (getD m i d) → Mapped n l m (i + 1)
+  map-skip n l m i d t h q = subst (λ (x : List A). Mapped n l x (i + 1)) (set-same m i d) (map-again n l m i (getD m i d) d t h q)
 
   pub map-done : (n : ℕ) (l m : List A) (i : ℕ) → Mapped n l m i → n ≤ i → m ≡ map f l
   map-done n l m i t h = t .same ∙ mapTo-all f i l (omega (arith, t .long))

@@ -1,19 +1,54 @@
 -- Laws of a drive's settling.
 use mathlib.Core.Path.{_≡_, refl, ap, _∙_}
-use mathlib.Core.Bool.{Bool}
+use mathlib.Core.Bool.{Bool, false}
+use Prim.Native.Nat.{ℕ, _+_, _<_, _≤_}
+use lib.ListN.{length, getD, set}
+use Rattle.base.proofs.Loops.{Mapped, map-begin, map-again, map-skip, map-done}
 use mathlib.Core.List.{List, [], _∷_, map}
 use Rattle.sensor.specs.declared.single.Sensor.{Sensor}
 use Rattle.sensors.specs.Sixteen.{conditionsBelow}
 use Rattle.band.specs.declared.Row.{Row}
-use Rattle.band.specs.Rows.{settleRow}
-use Rattle.band.proofs.Settling.{settle-again}
+use Rattle.band.specs.Rows.{isOpen, settleRow}
+use Rattle.band.proofs.Settling.{not-open, settle-again}
 use Rattle.drive.specs.declared.Drive.{Drive}
 use Rattle.drive.specs.State.{withRows, withSensors, conditionsOf, settleOf, tickOf, fallOf}
 
-pub settled : (d r : Drive) (cs : List Bool) (rows : List Row) → cs ≡ conditionsOf d → rows ≡ map (settleRow cs) (d .rows) → r ≡ withRows rows d
-    → r ≡ settleOf d
+-- ---- the loop that settles the rows in place
+
+-- after i turns: the first i rows are settled under the drive's conditions, and nothing else has changed
+pub record Settled (d₀ : Drive) (cs : List Bool) (d : Drive) (i : ℕ) : Type 0 where
+  pub conditions : cs ≡ conditionsOf d₀
+  pub rows : Mapped (settleRow cs) 16 (d₀ .rows) (d .rows) i
+  pub rest : d ≡ withRows (d .rows) d₀
+
+pub settle-begin : (d : Drive) (cs : List Bool) → cs ≡ conditionsOf d → length (d .rows) ≡ 16 → Settled d cs d 0
+settle-begin d cs e h = record { conditions = e; rows = map-begin (settleRow cs) 16 (d .rows) h; rest = refl }
+
+-- a turn: the row is settled and stored where it is open, and left where it is not
+pub row-settles : (d₀ d x : Drive) (cs : List Bool) (i : ℕ) (z row : Row) → Settled d₀ cs d i → i < 16 → row ≡ settleRow cs (getD (d .rows) i z)
+    → x ≡ withRows (set (d .rows) i row) d → Settled d₀ cs x (i + 1)
+row-settles d₀ d x cs i z row s h e q = rw q (record {
+  conditions = s .conditions;
+  rows = map-again (settleRow cs) 16 (d₀ .rows) (d .rows) i row z (s .rows) h e;
+  rest = ap (λ (y : Drive). withRows (set (d .rows) i row) y) (s .rest);
+})
+
+pub row-stays : (d₀ d x : Drive) (cs : List Bool) (i : ℕ) (z : Row) (t : Bool) → Settled d₀ cs d i → i < 16 → t ≡ isOpen (getD (d .rows) i z)
+    → t ≡ false → x ≡ d → Settled d₀ cs x (i + 1)
+row-stays d₀ d x cs i z t s h p e q = rw q (record {
+  conditions = s .conditions;
+  rows = map-skip (settleRow cs) 16 (d₀ .rows) (d .rows) i z (s .rows) h (not-open cs (getD (d .rows) i z) t p e);
+  rest = s .rest;
+})
+
+pub settle-done : (d₀ d : Drive) (cs : List Bool) (i : ℕ) → Settled d₀ cs d i → 16 ≤ i → d ≡ settleOf d₀
 unfolding settleOf
-settled d r cs rows e q w = w ∙ ap (λ (l : List Row). withRows l d) (q ∙ ap (λ (x : List Bool). map (settleRow x) (d .rows)) e)
+settle-done d₀ d cs i s h =
+    s .rest
+    ∙ ap (λ (l : List Row). withRows l d₀)
+    (map-done (settleRow cs) 16 (d₀ .rows) (d .rows) i (s .rows) h ∙ ap (λ (x : List Bool). map (settleRow x) (d₀ .rows)) (s .conditions))
+
+-- ---- laws
 
 rows-again : (cs : List Bool) (l : List Row) → map (settleRow cs) (map (settleRow cs) l) ≡ map (settleRow cs) l
 rows-again cs [] = refl

@@ -156,14 +156,19 @@ impl Drive {
         sensors::conditions(all, self.sensor_count)
     }
 
-    // The drive once its bands have settled.
-    pub fn settle(self) -> Drive
+    // The drive once its bands have settled: only an open row can change.
+    pub fn settle(mut self) -> Drive
         ensures { λ r. ⌜ r ≡ settleOf self ⌝ }
     {
         let conditions = self.conditions();
-        let rows = self.rows;
-        let settled = bands::settle_all(rows, conditions);
-        self.with_rows(settled)
+        for i in 0..16 {
+            let row = self.rows[i];
+            if row.open() {
+                let settled = row.settle(conditions);
+                self.rows[i] = settled;
+            }
+        }
+        self
     }
 }
 

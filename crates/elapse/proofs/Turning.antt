@@ -1,20 +1,21 @@
 -- Ticks of a drive from stop to stop.
-use mathlib.Core.Path.{_≡_}
-use mathlib.Core.Bool.{Bool}
+use mathlib.Core.Path.{_≡_, refl, sym, ap, _∙_}
+use mathlib.Core.List.{map}
 use Prim.Native.Nat.{ℕ, _-_, _<_, _≤_}
 use native.Mathlib.Omega.{arith}
-use Rattle.base.specs.Lists.{oneIf, any}
 use Rattle.base.specs.Ticks.{Turns}
 use Rattle.base.specs.Ticks.{stops as stopsIn}
 use Rattle.base.proofs.Turns.{Turnable, QuietMost, Running, run-state, run-stops}
 use Rattle.base.proofs.Turns.{turned as turned-any}
-use Rattle.sensor.specs.Single.{endsNext}
-use Rattle.sensors.specs.Sixteen.{quietTicks}
-use Rattle.sensors.proofs.Quiet.{lowered-running}
-use Rattle.sensors.proofs.Passing.{quiet-most}
+use Rattle.sensor.specs.Single.{loweredBy}
+use Rattle.sensor.specs.Single.{tickOf as sensorTick}
+use Rattle.sensors.specs.declared.Turn.{Turn}
+use Rattle.sensors.specs.Sixteen.{quietTicks, tickAndQuiet, turnOf}
+use Rattle.sensors.proofs.Quiet.{lowered-conditions, lowered-running}
+use Rattle.sensors.proofs.Passing.{quiet-most, some-turn}
 use Rattle.drive.specs.declared.Drive.{Drive}
-use Rattle.drive.specs.State.{settleOf, tickOf, stopNext}
-use Rattle.drive.proofs.Settling.{tick-settled}
+use Rattle.drive.specs.State.{withSensors, settleOf, fallOf, tickOf, stopNext}
+use Rattle.drive.proofs.Settling.{settle-with, tick-settled}
 use Rattle.elapse.specs.Jumps.{running, jumpOf, Elapses}
 use Rattle.elapse.proofs.Calm.{Calm, drive-jumps, stop-falls, stops-few}
 
@@ -31,13 +32,26 @@ calm-most m k d settled e =
     let q = quiet-most m k (d .sensors) e in
     record { few = q .few; quiet = record { settled = settled; timers = q .quiet }; most = q .most }
 
--- a turn as the code makes it
-pub turned : (m k : ℕ) (d t j : Drive) (stop : Bool) (one : ℕ) → 0 < m → stop ≡ any endsNext (d .sensors) → t ≡ tickOf d
-    → k ≡ quietTicks (m - 1) (t .sensors) → j ≡ jumpOf k t → one ≡ oneIf stop → Turns tickOf stopNext running m d j (m - 1 - k) one
+-- a tick changes the sensors as it does by itself
+ticked : (d : Drive) → tickOf d .sensors ≡ map sensorTick (d .sensors)
+unfolding tickOf settleOf
+ticked d = refl
+
+-- to settle after the quiet ticks is to settle before them
+settled-late : (k : ℕ) (d : Drive) → settleOf (withSensors (map (loweredBy k) (map sensorTick (d .sensors))) d) ≡ jumpOf k (tickOf d)
+unfolding tickOf jumpOf settleOf
+settled-late k d = settle-with (fallOf d) _ (lowered-conditions k (d .«sensor_count») (map sensorTick (d .sensors)))
+
+-- a turn as the code makes it: the sensors' own, and then the bands settle
+pub turned : (m : ℕ) (d j : Drive) (r : Turn) → 0 < m → r ≡ turnOf m (d .sensors) → j ≡ settleOf (withSensors (r .sensors) d)
+    → Turns tickOf stopNext running m d j (r .left) (r .stops)
 unfolding stopNext
-turned m k d t j stop one h es et ek ej eo =
-    let settled : settleOf t ≡ t = rw et (tick-settled d) in
-    turned-any tickOf stopNext jumpOf running Calm turnable m k d t j h et (calm-most (m - 1) k t settled ek) ej stop one es eo
+turned m d j r h e q =
+    let k : ℕ = quietTicks (m - 1) (map sensorTick (d .sensors)) in
+    let p : r ≡ tickAndQuiet (m - 1) (d .sensors) = some-turn m (d .sensors) r h e in
+    let ej : j ≡ jumpOf k (tickOf d) = q ∙ ap (λ (x : Turn). settleOf (withSensors (x .sensors) d)) p ∙ settled-late k d in
+    let calm = calm-most (m - 1) k (tickOf d) (tick-settled d) (ap (quietTicks (m - 1)) (sym (ticked d))) in
+    rw p (turned-any tickOf stopNext jumpOf running Calm turnable m k d (tickOf d) j h refl calm ej _ _ refl refl)
 
 pub run-done : (n : ℕ) (d₀ d : Drive) (left stops : ℕ) → Running tickOf stopNext n d₀ d left stops → left ≤ 0
     → Elapses n d₀ (record { drive = d; stops = stops })

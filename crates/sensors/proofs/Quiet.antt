@@ -1,15 +1,17 @@
 -- Ticks of the sensors of a drive: k quiet ticks at once, the ticks before the next end, and stops that use up running timers.
-use mathlib.Core.Path.{_≡_, refl, ap, _∙_}
+use mathlib.Core.Path.{_≡_, refl, sym, ap, _∙_}
 use mathlib.Core.Bool.{Bool, true, false, _||_, false≢true}
 use mathlib.Core.List.{List, [], _∷_, map}
 use mathlib.Core.Logic.{_⊎_, inl, inr, ⊎-elim}
-use Prim.Native.Nat.{ℕ, zero, suc, _+_, _-_, _≤_}
+use Prim.Native.Nat.{ℕ, zero, suc, _+_, _-_, _<_, _≤_}
 use native.Mathlib.Omega.{arith}
 use lib.Dec.{eqb}
-use borrow.Author.Tests.{eq-eqb, ne-eqb}
+use lib.ListN.{getD, set}
+use borrow.Author.Tests.{eq-eqb, ne-eqb, ltb-false}
 use Rattle.base.specs.Lists.{oneIf, any, count}
 use Rattle.base.proofs.Lists.{or-le}
 use Rattle.base.proofs.Jumps.{Jumps}
+use Rattle.base.proofs.Loops.{Mapped, map-again, map-skip}
 use Rattle.sensor.specs.declared.single.Sensor.{Sensor}
 use Rattle.sensor.specs.Single.{tickOf, loweredBy, endsNext, runs, quietOf}
 use Rattle.sensor.proofs.Ticks.{
@@ -17,6 +19,7 @@ use Rattle.sensor.proofs.Ticks.{
   quiet-less,
   quiet-next,
   not-last,
+  tick-none,
   tick-lowers,
   lowered-none,
   lowered-more,
@@ -110,6 +113,19 @@ quietTicks-most n (s ∷ l) =
 -- they are among those that are left
 pub few-left : (m k : ℕ) (l : List Sensor) → k ≡ quietTicks m l → k ≤ m
 few-left m k l e = omega (arith, e, quietTicks-le m l)
+
+-- ---- the loop of a tick
+
+module _ (n : ℕ) (l m x : List Sensor) (i : ℕ) (d : Sensor) (s : Mapped tickOf n l m i) (h : i < n) where
+  -- a sensor whose timer runs is stored after its tick
+  pub one-ticks : (v : Sensor) → v ≡ tickOf (getD m i d) → x ≡ set m i v → Mapped tickOf n l x (i + 1)
+  one-ticks v e q = rw q (map-again tickOf n l m i v d s h e)
+
+  -- another is left, since a tick leaves it
+  pub one-stays : (t : Bool) → t ≡ runs (getD m i d) → t ≡ false → x ≡ m → Mapped tickOf n l x (i + 1)
+  one-stays t p e q =
+      let none : getD m i d .timer ≡ 0 = omega (arith, ltb-false 0 (getD m i d .timer) (sym p ∙ e)) in
+      rw q (map-skip tickOf n l m i d s h (sym (tick-none (getD m i d) none)))
 
 -- ---- stops use up running timers
 

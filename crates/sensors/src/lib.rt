@@ -1,12 +1,10 @@
 // The sensors of a drive (document 01, 'Sensors'), by value: what a tick, a jump over quiet ticks and a power cycle make of all sixteen.
 ghost use mathlib.Core.Path.{_≡_};
-ghost use Prim.Native.Nat.{_<_};
 ghost use mathlib.Core.List.{map};
 ghost use Rattle.base.specs.Lists.{any, oneIf};
 ghost use Rattle.base.specs.Lists.{count as countOf};
-ghost use Rattle.base.specs.Ticks.{Turns};
 ghost use Rattle.sensor.specs.Single.{tickOf, loweredBy, powerCycleOf, runs, endsNext};
-ghost use Rattle.sensors.specs.Sixteen.{quietTicks, conditionsBelow, Passes};
+ghost use Rattle.sensors.specs.Sixteen.{quietTicks, turnOf, conditionsBelow, Passes};
 use phases::Cause;
 use sensor::Sensor;
 
@@ -16,22 +14,24 @@ pub struct Passed {
     pub stops: u64,
 }
 
-// What one turn leaves to do, and its stops.
-struct Turn {
-    sensors: [Sensor; 16],
-    left: u32,
-    stops: u64,
+// The sensors after one turn of an elapse, the ticks that are left then, and its stops.
+pub struct Turn {
+    pub sensors: [Sensor; 16],
+    pub left: u32,
+    pub stops: u64,
 }
 
-// Each sensor after a tick.
+// Each sensor after a tick, which changes those alone whose timer runs.
 pub fn tick_all(sensors: [Sensor; 16]) -> [Sensor; 16]
     ensures { λ r. ⌜ r ≡ map tickOf sensors ⌝ }
 {
     let mut out = sensors;
     for i in 0..16 {
         let s = out[i];
-        let ticked = s.tick();
-        out[i] = ticked;
+        if s.runs() {
+            let ticked = s.tick();
+            out[i] = ticked;
+        }
     }
     out
 }
@@ -86,11 +86,17 @@ pub fn quiet_ticks(sensors: [Sensor; 16], most: u32) -> u32
     n
 }
 
-// One tick, and the quiet ticks after it, of the `left` ticks that are to pass.
-fn turn_once(sensors: [Sensor; 16], left: u32) -> Turn
-    requires { ⌜ 0 < left ⌝ }
-    ensures { λ r. ⌜ Turns (map tickOf) (any endsNext) (countOf runs) left sensors (r .sensors) (r .left) (r .stops) ⌝ }
+// One turn of an elapse: of the `left` ticks that are to pass one tick, and the quiet ticks after it. Where none is left nothing passes.
+pub fn turn_once(sensors: [Sensor; 16], left: u32) -> Turn
+    ensures { λ r. ⌜ r ≡ turnOf left sensors ⌝ }
 {
+    if left == 0 {
+        return Turn {
+            sensors,
+            left: 0,
+            stops: 0,
+        };
+    }
     let stop = some_ends(sensors);
     let ticked = tick_all(sensors);
     let k = quiet_ticks(ticked, left - 1);

@@ -1,10 +1,10 @@
 use borrow.Author.Needs.{needs}
 use mathlib.Core.List.{map}
 use Rattle.base.specs.Lists.{any, count}
-use Rattle.base.specs.Ticks.{turnsLeft}
+use Rattle.base.specs.Ticks.{turnsLeft, Turns}
 use Rattle.base.proofs.Turns.{Running, run-begin, run-again}
 use Rattle.sensor.specs.Single.{tickOf, endsNext, runs}
-use Rattle.sensors.proofs.Passing.{run-done}
+use Rattle.sensors.proofs.Passing.{turn-turns, run-done}
 use Rattle.sensors.proofs.pass_all.Statement.{statement}
 use Rattle.sensors.proofs.pass_all.Tie as tie
 
@@ -20,14 +20,21 @@ loop-holds c = search run-begin
 turn-once-requires : tie.Need-turn-once-requires Inv-loop μ-loop
 turn-once-requires c κs = search needs
 
+-- a turn, from what the call ensures
+turn : (c : tie.After-struct-known Inv-loop μ-loop) →
+    let t = c .before .before .turn-once .result in
+    let l = c .before .before .before .before .loop in
+    Turns (map tickOf) (any endsNext) (count runs) (l .left) (l .next) (t .sensors) (t .left) (t .stops)
+turn c = turn-turns _ _ _ (search needs) (c .before .before .turn-once .ensures)
+
 add-stops : tie.Need-add-stops Inv-loop μ-loop
-add-stops c = search needs
+add-stops c = search (turn c, needs)
 
 loop-less : tie.Need-loop-less Inv-loop μ-loop
-loop-less c = search needs
+loop-less c = search (turn c, needs)
 
 loop-again : tie.Need-loop-again Inv-loop μ-loop
-loop-again c = search run-again
+loop-again c = search (run-again, turn c)
 
 returns : tie.Need-returns Inv-loop μ-loop
 returns c = search (run-done, needs)
