@@ -1,8 +1,7 @@
-// The locking rows of a drive (document 01, 'Bands'), by value: what a reset makes of all sixteen, which are closed, and whether one is open.
+// The locking rows of a drive (document 01, 'Bands'), by value: what a reset makes of all sixteen, and which are closed.
 ghost use mathlib.Core.Path.{_≡_};
 ghost use mathlib.Core.List.{map};
-ghost use Rattle.base.specs.Lists.{any};
-ghost use Rattle.band.specs.Rows.{resetRow, closedOn, isOpen};
+ghost use Rattle.band.specs.Rows.{resetRow, closedOn};
 use band::Row;
 use band::Side;
 
@@ -29,17 +28,4 @@ pub fn closed_sides(rows: [Row; 16], side: Side) -> [bool; 16]
         out[i] = row.closed(side);
     }
     out
-}
-
-// Whether some side of some row is enabled and not locked: only then can settling or a reset change a row.
-pub fn some_open(rows: [Row; 16]) -> bool
-    ensures { λ r. ⌜ r ≡ any isOpen rows ⌝ }
-{
-    for i in 0..16 {
-        let row = rows[i];
-        if row.open() {
-            return true;
-        }
-    }
-    false
 }

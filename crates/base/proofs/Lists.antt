@@ -21,14 +21,15 @@ module _ {A : Type 0} (f : A → A) where
   ahead (suc i) [] d = refl
   ahead (suc i) (x ∷ l) d = ahead i l d
 
-  next : (i : ℕ) (l : List A) (d : A) → i < length l → set (mapTo i l) i (f (getD l i d)) ≡ mapTo (suc i) l
-  next i [] d h = absurd (omega arith)
-  next zero (x ∷ l) d h = refl
-  next (suc i) (x ∷ l) d h = ap {B = List A} (λ r. f x ∷ r) (next i l d (omega arith))
+  next : (i : ℕ) (l : List A) (d : A) → set (mapTo i l) i (f (getD l i d)) ≡ mapTo (suc i) l
+  next zero [] d = refl
+  next (suc i) [] d = refl
+  next zero (x ∷ l) d = refl
+  next (suc i) (x ∷ l) d = ap {B = List A} (λ r. f x ∷ r) (next i l d)
 
   -- one turn: the value stored is f of the element that was read
-  pub mapTo-next : (i : ℕ) (l m : List A) (v d : A) → m ≡ mapTo i l → v ≡ f (getD m i d) → i < length l → set m i v ≡ mapTo (i + 1) l
-  mapTo-next i l m v d e q h = rw (q, e, ahead i l d, add-one) (next i l d h)
+  pub mapTo-next : (i : ℕ) (l m : List A) (v d : A) → m ≡ mapTo i l → v ≡ f (getD m i d) → set m i v ≡ mapTo (i + 1) l
+  mapTo-next i l m v d e q = rw (q, e, ahead i l d, add-one) (next i l d)
 
   pub mapTo-all : (i : ℕ) (l : List A) → length l ≤ i → mapTo i l ≡ map f l
   mapTo-all zero [] h = refl

@@ -22,7 +22,7 @@ module _ {A : Type 0} (f : A → A) where
 
   pub map-again : (n : ℕ) (l m : List A) (i : ℕ) (v d : A) → Mapped n l m i → i < n → v ≡ f (getD m i d) → Mapped n l (set m i v) (i + 1)
   map-again n l m i v d t h q =
-      record { low = omega arith; long = t .long; same = mapTo-next f i l m v d (t .same) q (omega (arith, t .long)) }
+      record { low = omega arith; long = t .long; same = mapTo-next f i l m v d (t .same) q }
 
   -- a turn that stores nothing, since f leaves the element as it is
   pub map-skip : (n : ℕ) (l m : List A) (i : ℕ) (d : A) → Mapped n l m i → i < n → getD m i d ≡ f (getD m i d) → Mapped n l m (i + 1)

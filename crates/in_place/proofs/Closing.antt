@@ -8,7 +8,7 @@ use mathlib.Core.List.{List, [], _∷_, map}
 use lib.ListN.{length, getD, set, take, length-map}
 use Rattle.base.specs.Lists.{any}
 use Rattle.base.proofs.Cases.{neither}
-use Rattle.base.proofs.Lists.{mapTo, mapTo-all}
+use Rattle.base.proofs.Lists.{mapTo, mapTo-next, mapTo-all, set-same}
 use Rattle.sensors.specs.Sixteen.{conditionsBelow}
 use Rattle.band.specs.declared.Row.{Row}
 use Rattle.band.specs.Rows.{isOpen, withLocked, lockUnder, settleRow, resetRow, locksBy}
@@ -16,7 +16,7 @@ use Rattle.band.proofs.Settling.{not-open, shut-reset, reset-settle}
 use Rattle.drive.specs.declared.Drive.{Drive}
 use Rattle.drive.specs.State.{withRows, conditionsOf, settleOf}
 use Rattle.drive.specs.Events.{Event}
-use Rattle.in_place.proofs.Storing.{Ran, Half, finishOf, set-same}
+use Rattle.in_place.proofs.Storing.{Ran, Half, finishOf}
 
 -- ---- one row
 
@@ -62,12 +62,6 @@ pub close-begin : (y : Drive) (t : ℕ) (cs : List Bool) (o : Bool) → Closing 
 unfolding any
 close-begin y t cs o = record { drive = refl; flag = λ _. refl }
 
-map-next : {A : Type 0} (f : A → A) (i : ℕ) (l : List A) (d : A) → set (mapTo f i l) i (f (getD (mapTo f i l) i d)) ≡ mapTo f (suc i) l
-map-next f zero [] d = refl
-map-next f (suc i) [] d = refl
-map-next f zero (x ∷ l) d = refl
-map-next f (suc i) (x ∷ l) d = ap (λ (m : List _). f x ∷ m) (map-next f i l d)
-
 shut-next : (j : ℕ) (rows : List Row) (v : Row) → any isOpen (take j rows) ≡ false → isOpen v ≡ false → any isOpen (take (suc j) (set rows j v)) ≡ false
 unfolding any
 shut-next j [] v e f = refl
@@ -89,9 +83,8 @@ module _ (y : Drive) (t : ℕ) (cs : List Bool) (x : Drive) (o : Bool) (j : ℕ)
   next-row : (v : Row) (o' : Bool) → v ≡ closeRow cs t (getD (x .rows) j d) → (o' ≡ false → (o ≡ false) × (isOpen v ≡ false))
       → Closing y t cs (withRows (set (x .rows) j v) x) o' (j + 1)
   next-row v o' e f = record {
-    drive = ap (λ (w : Row). withRows (set (x .rows) j w) x) e
-        ∙ ap (λ (w : Drive). withRows (set (w .rows) j (closeRow cs t (getD (w .rows) j d))) w) (g .drive)
-        ∙ rw add-one (ap (λ (rows : List Row). withRows rows y) (map-next (closeRow cs t) j (y .rows) d));
+    drive = ap (λ (w : Drive). withRows (set (x .rows) j v) w) (g .drive)
+        ∙ ap (λ (rows : List Row). withRows rows y) (mapTo-next (closeRow cs t) j (y .rows) (x .rows) v d (ap (λ (w : Drive). w .rows) (g .drive)) e);
     flag = λ z. rw add-one (shut-next j (x .rows) v (g .flag (f z .0)) (f z .1));
   }
 

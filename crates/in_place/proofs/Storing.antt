@@ -13,6 +13,7 @@ use Rattle.base.specs.Rows.{isRow, modify}
 use Rattle.base.specs.Ticks.{ticks}
 use Rattle.base.specs.Ticks.{stops as stopsIn}
 use Rattle.base.proofs.Cases.{cond-true, cond-false, neither}
+use Rattle.base.proofs.Lists.{set-same}
 use Rattle.base.proofs.Jumps.{ticks-keep, quiet-ticks, quiet-stops}
 use Rattle.base.proofs.Rows.{modify-set, getD-any}
 use Rattle.answer.specs.declared.Answer.{Answer}
@@ -50,9 +51,10 @@ use Rattle.row_set.specs.Forming.{rowAnswer, SetsRow}
 use Rattle.events.specs.Steps.{Takes, refused}
 use Rattle.events.proofs.Arms.{row-place, row-there, behind, cond-not, row-answer, no-sensor-reading, no-sensor-set, no-band, elapse-refused, reset-refused, place-answer}
 use Rattle.in_place.specs.declared.inner.Moved.{Moved}
+use Rattle.in_place.specs.declared.inner.Formed.{Formed}
 use Rattle.in_place.specs.declared.inner.Passing.{Passing}
 use Rattle.in_place.specs.Course.{Kept}
-use Rattle.in_place.specs.Parts.{Moves, byStops, PassesBy}
+use Rattle.in_place.specs.Parts.{Moves, Forms, byStops, PassesBy}
 use Rattle.in_place.proofs.Keeping.{step-kept}
 
 -- an event run: the two bytes written for it, and the drive that it left
@@ -140,11 +142,6 @@ stored d e n x y s p z does not-done q = record {
 shut-settles : (d : Drive) (l : List Sensor) → any isOpen (d .rows) ≡ false → settleOf (withSensors l d) ≡ withSensors l d
 unfolding settleOf
 shut-settles d l e = ap (λ (rows : List Row). withRows rows (withSensors l d)) (settle-shut (conditionsOf (withSensors l d)) (d .rows) e)
-
-pub set-same : {A : Type 0} (l : List A) (i : ℕ) (y : A) → set l i (getD l i y) ≡ l
-set-same [] i y = refl
-set-same (x ∷ l) zero y = refl
-set-same (x ∷ l) (suc i) y = ap (λ (m : List _). x ∷ m) (set-same l i y)
 
 same-conditions : (c : ℕ) (l : List Sensor) (i : ℕ) (y v : Sensor) → i < length l → v .condition ≡ getD l i y .condition
     → conditionsBelow c (set l i v) ≡ conditionsBelow c l
@@ -428,13 +425,13 @@ set-shut (row ∷ rows) (suc i) v e f =
     ap₂ (λ (a b : Bool). a || b) (h .0) (set-shut rows i v (h .1) f)
 
 -- the same, with the bytes as the part of the script that was handed on
-pub band-half : (d : Drive) (k : Kept d) (b : ℕ) (c : BandColumns) (part bytes : List ℕ) (t : Bool) (y : Row) (cs : List Bool) (r : RowAnswer) (a : ℕ) (new : Row) (o u o' due : Bool) (w : ℕ)
+pub band-half : (d : Drive) (k : Kept d) (b : ℕ) (c : BandColumns) (part bytes : List ℕ) (t : Bool) (y : Row) (cs : List Bool) (m : Formed) (o o' due : Bool) (w : ℕ)
     → 2 < w → (o ≡ false → any isOpen (d .rows) ≡ false) → t ≡ not (isRow (d .«band_count») b) → t ≡ false → cs ≡ conditionsBelow (d .«sensor_count») (d .sensors) → part ≡ bytes
-    → SetsRow cs c part (getD (d .rows) b y) r → new ≡ settleRow cs (r .row) → a ≡ numberOf (r .answer) → u ≡ isOpen new → o' ≡ (o || u) → Half d (bandSet b c bytes) a 0 (withRows (set (d .rows) b new) d) o' due w
-band-half d k b c part bytes t y cs r a new o u o' due w g fl p e ec et h en ea eu eo =
-    whole-half d (bandSet b c bytes) a 0 (withRows (set (d .rows) b new) d) o' due w k g
-    (band-ran d k b c bytes t p e y cs ec r (subst (λ (l : List ℕ). SetsRow cs c l (getD (d .rows) b y) r) et h) a new _ ea en refl)
-    (λ z. let q = neither o u (sym eo ∙ z) in set-shut (d .rows) b new (fl (q .0)) (sym eu ∙ q .1))
+    → Forms cs c part (getD (d .rows) b y) m → o' ≡ (o || m .«is_open») → Half d (bandSet b c bytes) (m .number) 0 (withRows (set (d .rows) b (m .row)) d) o' due w
+band-half d k b c part bytes t y cs m o o' due w g fl p e ec et h eo =
+    whole-half d (bandSet b c bytes) (m .number) 0 (withRows (set (d .rows) b (m .row)) d) o' due w k g
+    (band-ran d k b c bytes t p e y cs ec (h .reply) (subst (λ (l : List ℕ). SetsRow cs c l (getD (d .rows) b y) (h .reply)) et (h .sets)) (m .number) (m .row) _ (h .number-is) (h .row-is) refl)
+    (λ z. let q = neither o (m .«is_open») (sym eo ∙ z) in set-shut (d .rows) b (m .row) (fl (q .0)) (sym (h .open-is) ∙ q .1))
 
 -- ---- geometry and transfer
 

@@ -10,7 +10,9 @@ ghost use Rattle.sensor.specs.Single.{readingAnswer, readingOf};
 ghost use Rattle.sensor.specs.Columns.{setAnswer, setOf};
 ghost use Rattle.geometry.specs.Events.{transferAnswer};
 ghost use Rattle.in_place.specs.Course.{Goes, Kept};
-ghost use Rattle.in_place.specs.Parts.{Moves, byStops, PassesBy};
+ghost use Rattle.in_place.specs.Parts.{Moves, Forms, byStops, PassesBy};
+use band::BandColumns;
+use band::Row;
 use drive::Drive;
 use drive::Kind;
 use geometry::Span;
@@ -27,6 +29,13 @@ struct Moved {
     sensor: Sensor,
     number: u8,
     turned: bool,
+}
+
+// What a Set makes of one row, which has settled, the answer's number, and whether the row is open.
+struct Formed {
+    row: Row,
+    number: u8,
+    is_open: bool,
 }
 
 // What an elapse makes of the sensors alone, the answer's number, and the stops as a byte.
@@ -83,6 +92,21 @@ fn set(one: Sensor, columns: SensorColumns) -> Moved
 {
     let r = one.set(columns);
     outcome(one, r)
+}
+
+// A Set of one row.
+fn form(one: Row, conditions: [bool; 16], columns: BandColumns, tokens: &[u8]) -> Formed
+    ensures { λ m. ⌜ Forms conditions columns (now (tokens .entry)) one m ⌝ }
+{
+    let r = row_set::set(one, conditions, columns, tokens);
+    let formed = r.row;
+    let answer = r.answer;
+    let new = formed.settle(conditions);
+    Formed {
+        row: new,
+        number: answer.number(),
+        is_open: new.open(),
+    }
 }
 
 // An elapse's stops as a byte: there are at most sixteen, as there are sensors.
@@ -252,13 +276,11 @@ pub fn run_events(
                     let conditions = sensors::conditions(all, drive.sensor_count);
                     let one = drive.rows[j];
                     let tokens = script::tokens_at(script, place, size);
-                    let r = row_set::set(one, conditions, columns, tokens);
-                    let formed = r.row;
-                    let new = formed.settle(conditions);
+                    let r = form(one, conditions, columns, tokens);
+                    let new = r.row;
                     drive.rows[j] = new;
-                    let answer = r.answer;
-                    number = answer.number();
-                    any_open = either(any_open, new.open());
+                    number = r.number;
+                    any_open = either(any_open, r.is_open);
                 }
             }
             Kind::Geometry(band, first, length) => {

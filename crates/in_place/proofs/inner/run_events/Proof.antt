@@ -137,23 +137,14 @@ element-copy-out-one-3 c = search row-place
 tokens-at-requires : tie.Need-tokens-at-requires Inv-loop2 μ-loop2 Inv-loop μ-loop
 tokens-at-requires c κs = search needs
 
-set-requires-2 : tie.Need-set-requires-2 Inv-loop2 μ-loop2 Inv-loop μ-loop
-set-requires-2 c κs = search needs
-
-settle-requires : tie.Need-settle-requires Inv-loop2 μ-loop2 Inv-loop μ-loop
-settle-requires c κs = search needs
+form-requires : tie.Need-form-requires Inv-loop2 μ-loop2 Inv-loop μ-loop
+form-requires c κs = search needs
 
 mul-new-3 : tie.Need-mul-new-3 Inv-loop2 μ-loop2 Inv-loop μ-loop
 mul-new-3 c = search (row-scaled, needs)
 
 element-set-from-new-3 : tie.Need-element-set-from-new-3 Inv-loop2 μ-loop2 Inv-loop μ-loop
 element-set-from-new-3 c = search row-place
-
-number-requires : tie.Need-number-requires Inv-loop2 μ-loop2 Inv-loop μ-loop
-number-requires c κs = search needs
-
-open-requires : tie.Need-open-requires Inv-loop2 μ-loop2 Inv-loop μ-loop
-open-requires c κs = search needs
 
 either-requires : tie.Need-either-requires Inv-loop2 μ-loop2 Inv-loop μ-loop
 either-requires c κs = search needs
@@ -164,8 +155,8 @@ enum-known-kind-7 c = search needs
 place-requires : tie.Need-place-requires Inv-loop2 μ-loop2 Inv-loop μ-loop
 place-requires c κs = search needs
 
-number-requires-2 : tie.Need-number-requires-2 Inv-loop2 μ-loop2 Inv-loop μ-loop
-number-requires-2 c κs = search needs
+number-requires : tie.Need-number-requires Inv-loop2 μ-loop2 Inv-loop μ-loop
+number-requires c κs = search needs
 
 enum-known-kind-8 : tie.Need-enum-known-kind-8 Inv-loop2 μ-loop2 Inv-loop μ-loop
 enum-known-kind-8 c = search needs
@@ -194,8 +185,8 @@ mul-row c = search needs
 element-copy-out-row : tie.Need-element-copy-out-row Inv-loop2 μ-loop2 Inv-loop μ-loop
 element-copy-out-row c = search needs
 
-open-requires-2 : tie.Need-open-requires-2 Inv-loop2 μ-loop2 Inv-loop μ-loop
-open-requires-2 c κs = search needs
+open-requires : tie.Need-open-requires Inv-loop2 μ-loop2 Inv-loop μ-loop
+open-requires c κs = search needs
 
 locks-requires : tie.Need-locks-requires Inv-loop2 μ-loop2 Inv-loop μ-loop
 locks-requires c κs = search needs
@@ -220,7 +211,7 @@ loop2-again c =
     let g = c .before .before .before .before .loop2 .inv in
     ⊎-elim (λ w. close-as (close-lock _ _ _ _ _ _ _ g _ _ (w .1 .ensures) (w .2 .taken) (w .3 .ensures)) (w .4) (w .5))
     (⊎-elim (λ w. close-as (close-stay _ _ _ _ _ _ _ g _ (w .1 .ensures) (w .2 .left)) (w .3) (w .4))
-    (λ w. close-as (close-pass _ _ _ _ _ _ _ g _ (c .before .open2 .ensures) (w .0 .left)) (w .1) (w .2)))
+    (λ w. close-as (close-pass _ _ _ _ _ _ _ g _ (c .before .«open» .ensures) (w .0 .left)) (w .1) (w .2)))
     (c .if7 .came)
 
 slice-write-answers : tie.Need-slice-write-answers Inv-loop2 μ-loop2 Inv-loop μ-loop
@@ -248,7 +239,7 @@ loop-again c =
     (⊎-elim (λ w. stored-as g (w .1 .given .1) (set-absent _ (g .loop .kept) _ _ _ above (g .loop .flag) _ _ _ (w .3 .ensures) (w .4 .taken)) (w .5) (w .6) (w .7) (w .8) (w .9) (w .10))
     (⊎-elim (λ w. stored-as g (w .1 .given .1) (set-half _ (g .loop .kept) _ _ (w .3 .ensures) (w .4 .left) _ _ _ _ _ (w .6 .ensures) above (g .loop .flag)) (w .8) (w .9) (w .10) (w .11) (w .12) (w .13))
     (⊎-elim (λ w. stored-as g (w .1 .given .1) (band-absent _ (g .loop .kept) _ _ _ above (g .loop .flag) _ _ _ _ (w .3 .ensures) (w .4 .taken)) (w .5) (w .6) (w .7) (w .8) (w .9) (w .10))
-    (⊎-elim (λ w. stored-as g (w .1 .given .1) (band-half _ (g .loop .kept) _ _ _ _ _ _ _ _ _ _ _ _ _ _ _ above (g .loop .flag) (w .3 .ensures) (w .4 .left) (w .6 .ensures) (w .8 .ensures) (w .9 .ensures) (w .11 .ensures) (w .12 .ensures) (w .13 .ensures) (w .14 .ensures)) (w .15) (w .16) (w .17) (w .18) (w .19) (w .20))
+    (⊎-elim (λ w. stored-as g (w .1 .given .1) (band-half _ (g .loop .kept) _ _ _ _ _ _ _ _ _ _ _ _ above (g .loop .flag) (w .3 .ensures) (w .4 .left) (w .6 .ensures) (w .8 .ensures) (w .9 .ensures) (w .11 .ensures)) (w .12) (w .13) (w .14) (w .15) (w .16) (w .17))
     (⊎-elim (λ w. stored-as g (w .1 .given .1) (geometry-half _ (g .loop .kept) _ _ _ _ _ _ _ _ above (g .loop .flag) (w .4 .ensures) (w .6 .ensures)) (w .7) (w .8) (w .9) (w .10) (w .11) (w .12))
     (λ w. stored-as g (w .1 .given .1) (transfer-half _ (g .loop .kept) _ _ _ _ _ _ _ _ _ above (g .loop .flag) (w .4 .ensures) (w .5 .ensures) (w .7 .ensures)) (w .8) (w .9) (w .10) (w .11) (w .12) (w .13))))))))))))
     (c .before .before .match2 .came) in
@@ -309,16 +300,13 @@ run-events-spec =
     mul-one-3
     element-copy-out-one-3
     tokens-at-requires
-    set-requires-2
-    settle-requires
+    form-requires
     mul-new-3
     element-set-from-new-3
-    number-requires
-    open-requires
     either-requires
     enum-known-kind-7
     place-requires
-    number-requires-2
+    number-requires
     enum-known-kind-8
     side-requires
     closed-sides-requires
@@ -328,7 +316,7 @@ run-events-spec =
     loop2-holds
     mul-row
     element-copy-out-row
-    open-requires-2
+    open-requires
     locks-requires
     lock-requires
     mul-new-4
