@@ -16,17 +16,17 @@ pub record Walking (s : List ℕ) (number at left : ℕ) : Type 0 where
   pub same : placeOf s left at ≡ placeOf s number 0
 
 pub walk-begin : (s : List ℕ) (number : ℕ) → Walking s number 0 number
-walk-begin s number = record { within = omega arith; same = refl; }
+walk-begin s number = record { within = omega arith; same = refl }
 
 pub walk-again : (s : List ℕ) (number at left next : ℕ) → Walking s number at left → 0 < left → next ≡ nextAt s at → Walking s number next (left - 1)
 unfolding placeOf
 walk-again s number at zero next w h e = absurd (not-suc-le-zero h)
 walk-again s number at (suc k) next w h e =
-  let q : suc k - 1 ≡ k = omega arith in
-  record {
-    within = let i = next-within s at in omega (arith, e, i);
-    same = ap₂ (placeOf s) q e ∙ w .same;
-  }
+    let q : suc k - 1 ≡ k = omega arith in
+    record {
+      within = let i = next-within s at in omega (arith, e, i);
+      same = ap₂ (placeOf s) q e ∙ w .same;
+    }
 
 pub walk-end : (s : List ℕ) (number at left : ℕ) → Walking s number at left → left ≤ 0 → at ≡ placeOf s number 0
 unfolding placeOf

@@ -1,14 +1,6 @@
 // Runs the scripts of standard input, each after its length in four bytes, low first, and prints for each a line with its number and then its
 // listing as document 01 has it.
 
-// Prints the first bytes of a page.
-fn print(page: &[u8], length: usize) {
-    if page.len() < length {
-        return;
-    }
-    io::write_all(1, &page[..length]);
-}
-
 fn title(number: usize) {
     io::write_all(1, b"# ");
     io::print_decimal(1, number as u64);
@@ -19,7 +11,8 @@ fn case(number: usize, script: &[u8]) {
     let mut page = [0; report::MOST];
     let listed = report::list(script, &mut page);
     title(number);
-    print(&page, listed.length);
+    let text = report::first(&page, listed.length);
+    io::write_all(1, text);
 }
 
 fn all_cases(input: &[u8]) {
