@@ -133,22 +133,10 @@ fn case(number: usize, script: &[u8]) {
     end(run_from(script, at, drive));
 }
 
-fn joined(a: u8, b: u8, c: u8) -> usize {
-    a as usize + b as usize * 256 + c as usize * 65_536
-}
-
-fn cases(input: &[u8]) {
-    let mut at = 0;
-    let mut number = 0;
-    while 4 <= input.len() - at {
-        let size = joined(input[at], input[at + 1], input[at + 2]);
-        at += 4;
-        if input.len() - at < size {
-            return;
-        }
-        case(number, &input[at..at + size]);
-        number += 1;
-        at += size;
+fn all_cases(input: &[u8]) {
+    for number in 0..32 {
+        let script = cases::case_of(input, number);
+        case(number, script);
     }
 }
 
@@ -247,7 +235,7 @@ fn least_drive() {
 fn main() {
     let mut input = [0; 8_192];
     let n = io::read_full(0, &mut input);
-    cases(&input[..n]);
+    all_cases(&input[..n]);
     outside_a_script();
     headers();
     least_drive();

@@ -153,8 +153,8 @@ pub fn set_sensor(drive: Drive, sensor: u64, columns: SensorColumns) -> Reply
     }
     let at = sensor as usize;
     let all = drive.sensors;
-    let one = sensor_at(all, at);
-    let r = one.set(columns);
+    let former = sensor_at(all, at);
+    let r = former.set(columns);
     store_sensor(drive, at, r)
 }
 

@@ -1,4 +1,4 @@
-// Reads strings of bytes from standard input, each after its length in two bytes, low first, and prints a line for each: its number, its
+// Reads strings of bytes from standard input, each after its length in four bytes, low first, and prints a line for each: its number, its
 // length and the token reader's answer. Where that is 0 there follow the elements, their value under three sets of conditions, what the
 // writer answers and whether it writes the same bytes and keeps the rest of its output, and its answer to an output one byte short.
 //
@@ -214,22 +214,10 @@ fn case(number: usize, bytes: &[u8]) {
     print(b"\n");
 }
 
-fn joined(low: u8, high: u8) -> usize {
-    low as usize + high as usize * 256
-}
-
-fn cases(input: &[u8]) {
-    let mut at = 0;
-    let mut number = 0;
-    while 2 <= input.len() - at {
-        let size = joined(input[at], input[at + 1]);
-        at += 2;
-        if input.len() - at < size {
-            return;
-        }
-        number += 1;
-        case(number, &input[at..at + size]);
-        at += size;
+fn all_cases(input: &[u8]) {
+    for number in 0..362 {
+        let bytes = cases::case_of(input, number);
+        case(number + 1, bytes);
     }
 }
 
@@ -350,7 +338,7 @@ fn lists_with_none() {
 fn main() {
     let mut input = io::large_buffer();
     let n = io::read_full(0, &mut input);
-    cases(&input[..n]);
+    all_cases(&input[..n]);
     short_lists();
     singles();
     long_lists();

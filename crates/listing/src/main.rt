@@ -49,18 +49,11 @@ fn read_all(space: &mut [u8]) -> Input
     }
 }
 
-// Prints the first bytes of a page.
-fn print(page: &[u8], length: usize) {
-    if page.len() < length {
-        return;
-    }
-    io::write_all(libc::STDOUT_FILENO, &page[..length]);
-}
-
 fn list(script: &[u8]) {
     let mut page = [0; report::MOST];
     let listed = report::list(script, &mut page);
-    print(&page, listed.length);
+    let text = report::first(&page, listed.length);
+    io::write_all(libc::STDOUT_FILENO, text);
 }
 
 fn main() {

@@ -2,7 +2,7 @@
 ghost use mathlib.Core.Path.{_≡_};
 ghost use Prim.Native.Nat.{_≤_, _<_};
 ghost use mathlib.Core.List.{_∷_};
-ghost use lib.ListN.{length};
+ghost use lib.ListN.{length, take};
 ghost use Rattle.base.specs.Lists.{oneIf};
 ghost use Rattle.base.specs.Spliced.{spliced};
 ghost use Rattle.answer.specs.Numbers.{numberOf};
@@ -272,4 +272,15 @@ pub fn list(script: &[u8], out: &mut [u8]) -> Listed
     let mut stops = [0; 32_766];
     let mut page = [0; MOST];
     list_by(script, out, &mut answers, &mut stops, &mut page)
+}
+
+// The first bytes of a page; all of it where it has no more.
+pub fn first(page: &[u8], count: usize) -> &[u8]
+    ensures { λ r. ⌜ now r ≡ take count (now (page .entry)) ⌝ }
+{
+    if page.len() < count {
+        page
+    } else {
+        &page[..count]
+    }
 }

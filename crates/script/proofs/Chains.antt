@@ -1,7 +1,8 @@
 -- Fields one after the other: what a call found, and what is read on from there. `search fields` goes along a chain of them.
 use mathlib.Core.Path.{_≡_, refl, sym, ap, _∙_}
 use Prim.Native.Nat.{ℕ, _+_, _-_, _/_, _%_, _≤_, _<_}
-use mathlib.Core.Bool.{Bool, cond}
+use mathlib.Core.Bool.{Bool, true, false, cond}
+use native.Mathlib.Omega.{arith}
 use mathlib.Core.List.{List}
 use lib.Dec.{eqb, leb}
 use lib.ListN.{length}
@@ -50,6 +51,10 @@ column-free s at mask bit n = cond-false (named bit mask) _ _ _ (ne-eqb (mask / 
 pub no-expression : (s : List ℕ) (at mask : ℕ) → (mask / 32 % 2 ≡ 1 → ⊥) → stretch 0 0 at ≡ expressionAt s at mask
 no-expression s at mask n = cond-false (named 32 mask) _ _ _ (ne-eqb (mask / 32 % 2) 1 n) refl
 
+cut-anyway : (b : Bool) (x : Stretch) → cut ≡ x → cut ≡ cond b x cut
+cut-anyway true x e = e
+cut-anyway false x e = refl
+
 module _ (s : List ℕ) (at mask : ℕ) (r : Number) (h : mask / 32 % 2 ≡ 1) (e : foundIn r ≡ numberAt s at) where
   there : stretchAt s (foundIn r) ≡ expressionAt s at mask
   there = cond-true (named 32 mask) _ _ _ (eq-eqb (mask / 32 % 2) 1 h) (ap (stretchAt s) e)
@@ -61,16 +66,16 @@ module _ (s : List ℕ) (at mask : ℕ) (r : Number) (h : mask / 32 % 2 ≡ 1) (
     at-size : stretchAt s (found size n) ≡ expressionAt s at mask
     at-size = sym (ap (λ (x : Number). stretchAt s (foundIn x)) q) ∙ there
 
-    pub expression-long : 1024 < size → cut ≡ expressionAt s at mask
-    expression-long k = cond-false (leb size 1024) _ _ _ (lt-leb size 1024 k) refl ∙ at-size
+    pub expression-long : (limit : ℕ) → limit < size → 1024 ≤ limit → cut ≡ expressionAt s at mask
+    expression-long limit l k = cond-false (leb size 1024) _ _ _ (lt-leb size 1024 (omega arith)) refl ∙ at-size
 
-    pub expression-past : size ≤ 1024 → length s < n → cut ≡ expressionAt s at mask
-    expression-past k l =
-        cond-true (leb size 1024) _ _ _ (le-leb size 1024 k) (cond-false (leb n (length s)) _ _ _ (lt-leb n (length s) l) refl) ∙ at-size
+    -- cut after the length, whether it is in range or not
+    pub expression-past : length s < n → cut ≡ expressionAt s at mask
+    expression-past l = cut-anyway (leb size 1024) _ (cond-false (leb n (length s)) _ _ _ (lt-leb n (length s) l) refl) ∙ at-size
 
-    pub expression-cut : size ≤ 1024 → n ≤ length s → length s - n < size → cut ≡ expressionAt s at mask
-    expression-cut k l m =
-        cond-true (leb size 1024) _ _ _ (le-leb size 1024 k)
+    pub expression-cut : n ≤ length s → length s - n < size → cut ≡ expressionAt s at mask
+    expression-cut l m =
+        cut-anyway (leb size 1024) _
         (cond-true (leb n (length s)) _ _ _ (le-leb n (length s) l) (cond-false (leb size (length s - n)) _ _ _ (lt-leb size (length s - n) m) refl))
         ∙ at-size
 

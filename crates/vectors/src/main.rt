@@ -1,14 +1,6 @@
 // Runs the scripts of standard input, each after its length in four bytes, low first, and prints for each a line with its number and then its
 // listing as document 01 has it.
 
-// Prints the first bytes of a page.
-fn print(page: &[u8], length: usize) {
-    if page.len() < length {
-        return;
-    }
-    io::write_all(1, &page[..length]);
-}
-
 fn title(number: usize) {
     io::write_all(1, b"# ");
     io::print_decimal(1, number as u64);
@@ -19,30 +11,19 @@ fn case(number: usize, script: &[u8]) {
     let mut page = [0; report::MOST];
     let listed = report::list(script, &mut page);
     title(number);
-    print(&page, listed.length);
+    let text = report::first(&page, listed.length);
+    io::write_all(1, text);
 }
 
-fn joined(a: u8, b: u8, c: u8) -> usize {
-    a as usize + b as usize * 256 + c as usize * 65_536
-}
-
-fn cases(input: &[u8]) {
-    let mut at = 0;
-    let mut number = 0;
-    while 4 <= input.len() - at {
-        let size = joined(input[at], input[at + 1], input[at + 2]);
-        at += 4;
-        if input.len() - at < size {
-            return;
-        }
-        case(number, &input[at..at + size]);
-        number += 1;
-        at += size;
+fn all_cases(input: &[u8]) {
+    for number in 0..400 {
+        let script = cases::case_of(input, number);
+        case(number, script);
     }
 }
 
 fn main() {
     let mut input = [0; 131_072];
     let n = io::read_full(0, &mut input);
-    cases(&input[..n]);
+    all_cases(&input[..n]);
 }

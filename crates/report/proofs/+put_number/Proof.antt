@@ -20,107 +20,19 @@ abbrev put-number-below : ℕ → In 1 put-number-kinds.ps
 put-number-below t =
     and 1 put-number-kinds.ps (falls 1 put-number-kinds.ps _<_ μ-put-number t) put-number.Pre
 
-put-number-cast-out :
-    (t : ℕ) →
-    put-number-lts.Need-cast-out
-    (put-number-below t, put-number.Post)
-    (put-number-at t)
-    put-number.Post
-put-number-cast-out t c = search needs
-
-put-number-add-out :
-    (t : ℕ) →
-    put-number-lts.Need-add-out
-    (put-number-below t, put-number.Post)
-    (put-number-at t)
-    put-number.Post
-put-number-add-out t c = search needs
-
-put-number-slice-write-out : (t : ℕ) → put-number-lts.Need-slice-write-out (
-  put-number-below t,
-  put-number.Post,
-) (put-number-at t) put-number.Post
-put-number-slice-write-out t c = search (digit-room, needs)
-
-put-number-add-result : (t : ℕ) → put-number-lts.Need-add-result (
-  put-number-below t,
-  put-number.Post,
-) (put-number-at t) put-number.Post
-put-number-add-result t c = search (digit-room, needs)
-
-put-number-same-length : (t : ℕ) → put-number-lts.Need-same-length (
-  put-number-below t,
-  put-number.Post,
-) (put-number-at t) put-number.Post
-put-number-same-length t c = search needs
-
-put-number-returns :
-    (t : ℕ) →
-    put-number-lts.Need-returns
-    (put-number-below t, put-number.Post)
-    (put-number-at t)
-    put-number.Post
-put-number-returns t c = search digit-put
-
-put-number-put-number-requires : (t : ℕ) → put-number-lts.Need-put-number-requires (
-  put-number-below t,
-  put-number.Post,
-) (put-number-at t) put-number.Post
-put-number-put-number-requires t c κs = (search (falls-by-ten, needs), search (more-room, needs))
-
-put-number-cast-out-2 : (t : ℕ) → put-number-lts.Need-cast-out-2 (
-  put-number-below t,
-  put-number.Post,
-) (put-number-at t) put-number.Post
-put-number-cast-out-2 t c = search needs
-
-put-number-add-out-2 : (t : ℕ) → put-number-lts.Need-add-out-2 (
-  put-number-below t,
-  put-number.Post,
-) (put-number-at t) put-number.Post
-put-number-add-out-2 t c = search needs
-
-put-number-slice-write-out-2 : (t : ℕ) → put-number-lts.Need-slice-write-out-2 (
-  put-number-below t,
-  put-number.Post,
-) (put-number-at t) put-number.Post
-put-number-slice-write-out-2 t c = search (last-room, needs)
-
-put-number-add-result-2 : (t : ℕ) → put-number-lts.Need-add-result-2 (
-  put-number-below t,
-  put-number.Post,
-) (put-number-at t) put-number.Post
-put-number-add-result-2 t c = search (last-small, needs)
-
-put-number-same-length-2 : (t : ℕ) → put-number-lts.Need-same-length-2 (
-  put-number-below t,
-  put-number.Post,
-) (put-number-at t) put-number.Post
-put-number-same-length-2 t c = search needs
-
-put-number-returns-2 : (t : ℕ) → put-number-lts.Need-returns-2 (
-  put-number-below t,
-  put-number.Post,
-) (put-number-at t) put-number.Post
-put-number-returns-2 t c = search (last-put, needs)
-
 pub +put-number-spec : {M : Type 1} → statement M
-+put-number-spec = close μ-put-number λ t. put-number-lts.spec (
-  put-number-below t,
-  put-number.Post,
-)
-    (put-number-at t)
-    put-number.Post
-    (put-number-cast-out t)
-    (put-number-add-out t)
-    (put-number-slice-write-out t)
-    (put-number-add-result t)
-    (put-number-same-length t)
-    (put-number-returns t)
-    (put-number-put-number-requires t)
-    (put-number-cast-out-2 t)
-    (put-number-add-out-2 t)
-    (put-number-slice-write-out-2 t)
-    (put-number-add-result-2 t)
-    (put-number-same-length-2 t)
-    (put-number-returns-2 t)
++put-number-spec =
+    close μ-put-number λ t. put-number-lts.spec (put-number-below t, put-number.Post) (put-number-at t) put-number.Post
+    (λ c. search needs)
+    (λ c. search needs)
+    (λ c. search (digit-room, needs))
+    (λ c. search (digit-room, needs))
+    (λ c. search needs)
+    (λ c. search digit-put)
+    (λ c κs. (search (falls-by-ten, needs), search (more-room, needs)))
+    (λ c. search needs)
+    (λ c. search needs)
+    (λ c. search (last-room, needs))
+    (λ c. search (last-small, needs))
+    (λ c. search needs)
+    (λ c. search (last-put, needs))

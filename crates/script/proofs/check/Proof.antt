@@ -1,10 +1,11 @@
+use native.Mathlib.Omega.{arith}
 use Rattle.script.proofs.Checking.{check-overlong, check-no-header, check-events}
 use borrow.Author.Needs.{needs}
 use Rattle.script.proofs.check.Statement.{statement}
 use Rattle.script.proofs.check.Tie as tie
 
 returns : tie.Need-returns
-returns c = search check-overlong
+returns c = check-overlong _ (omega arith)
 
 header-at-requires : tie.Need-header-at-requires
 header-at-requires c κs = search needs

@@ -16,7 +16,7 @@ returns : tie.Need-returns
 returns c = search expression-bad
 
 returns-2 : tie.Need-returns-2
-returns-2 c = search expression-long
+returns-2 c = search (expression-long, needs)
 
 returns-3 : tie.Need-returns-3
 returns-3 c = search expression-past

@@ -4,75 +4,23 @@ use borrow.Author.Needs.{needs}
 use Rattle.sensor.proofs.columns.SensorColumns.fit.Statement.{statement}
 use Rattle.sensor.proofs.columns.SensorColumns.fit.Tie as tie
 
-returns : tie.Need-returns
-unfolding columnsFit
-returns c = search tests depth 12
-
-in-range-requires : tie.Need-in-range-requires
-in-range-requires c κs = search needs
-
-returns-2 : tie.Need-returns-2
-unfolding columnsFit
-returns-2 c = search tests depth 12
-
-in-range-requires-2 : tie.Need-in-range-requires-2
-in-range-requires-2 c κs = search needs
-
-returns-3 : tie.Need-returns-3
-unfolding columnsFit
-returns-3 c = search tests depth 12
-
-in-range-requires-3 : tie.Need-in-range-requires-3
-in-range-requires-3 c κs = search needs
-
-returns-4 : tie.Need-returns-4
-unfolding columnsFit
-returns-4 c = search tests depth 12
-
-in-range-requires-4 : tie.Need-in-range-requires-4
-in-range-requires-4 c κs = search needs
-
-returns-5 : tie.Need-returns-5
-unfolding columnsFit
-returns-5 c = search tests depth 12
-
-in-range-requires-5 : tie.Need-in-range-requires-5
-in-range-requires-5 c κs = search needs
-
-returns-6 : tie.Need-returns-6
-unfolding columnsFit
-returns-6 c = search tests depth 12
-
-in-range-requires-6 : tie.Need-in-range-requires-6
-in-range-requires-6 c κs = search needs
-
-returns-7 : tie.Need-returns-7
-unfolding columnsFit
-returns-7 c = search tests depth 12
-
-in-range-requires-7 : tie.Need-in-range-requires-7
-in-range-requires-7 c κs = search needs
-
-returns-8 : tie.Need-returns-8
-unfolding columnsFit
-returns-8 c = search tests depth 12
-
 pub fit-spec : {M : Type 1} → statement M
+unfolding columnsFit
 fit-spec =
     tie.close
     (tie.spec
-    returns
-    in-range-requires
-    returns-2
-    in-range-requires-2
-    returns-3
-    in-range-requires-3
-    returns-4
-    in-range-requires-4
-    returns-5
-    in-range-requires-5
-    returns-6
-    in-range-requires-6
-    returns-7
-    in-range-requires-7
-    returns-8)
+    (λ c. search tests depth 12)
+    (λ c κs. search needs)
+    (λ c. search tests depth 12)
+    (λ c κs. search needs)
+    (λ c. search tests depth 12)
+    (λ c κs. search needs)
+    (λ c. search tests depth 12)
+    (λ c κs. search needs)
+    (λ c. search tests depth 12)
+    (λ c κs. search needs)
+    (λ c. search tests depth 12)
+    (λ c κs. search needs)
+    (λ c. search tests depth 12)
+    (λ c κs. search needs)
+    (λ c. search tests depth 12))

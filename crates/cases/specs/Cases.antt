@@ -1,0 +1,24 @@
+-- The cases of a test program's data, each after its length in four bytes, low first.
+use Prim.Native.Nat.{ℕ, zero, suc, _+_, _-_, _*_, min}
+use mathlib.Core.List.{List}
+use lib.ListN.{length, getD, take, drop}
+
+-- the length at a place; its fourth byte is 0
+abbrev pub sizeAt : List ℕ → ℕ → ℕ
+sizeAt s at = getD s at 0 + getD s (at + 1) 0 * 256 + getD s (at + 2) 0 * 65536
+
+-- the place after the case at a place: at most the data's end
+abbrev pub nextAt : List ℕ → ℕ → ℕ
+nextAt s at = min (length s) (at + 4 + sizeAt s at)
+
+-- the place so many cases after another
+unfoldable pub placeOf : List ℕ → ℕ → ℕ → ℕ
+placeOf s zero at = at
+placeOf s (suc n) at = placeOf s n (nextAt s at)
+
+-- the bytes between two places, without the length in front of them
+abbrev pub between : List ℕ → ℕ → ℕ → List ℕ
+between s at next = take (next - (at + 4)) (drop (at + 4) s)
+
+abbrev pub caseOf : List ℕ → ℕ → List ℕ
+caseOf s number = between s (placeOf s number 0) (nextAt s (placeOf s number 0))
