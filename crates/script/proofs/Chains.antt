@@ -1,19 +1,22 @@
 -- Fields one after the other: what a call found, and what is read on from there. `search fields` goes along a chain of them.
 use mathlib.Core.Path.{_≡_, refl, sym, ap, _∙_}
 use Prim.Native.Nat.{ℕ, _+_, _-_, _/_, _%_, _≤_, _<_}
-use mathlib.Core.Bool.{Bool, cond}
+use native.Mathlib.Omega.{arith}
+use mathlib.Core.Bool.{Bool, true, false, cond}
 use mathlib.Core.List.{List}
 use lib.Dec.{eqb, leb}
 use lib.ListN.{length}
-use borrow.Author.Tests.{le-leb, lt-leb, eq-eqb, ne-eqb}
+use borrow.Author.Tests.{le-leb, lt-leb, eq-eqb, ne-eqb, eqb-true, eqb-false}
 use Rattle.base.specs.Columns.{named}
 use Rattle.base.proofs.Cases.{cond-true, cond-false}
 use Rattle.numbers.specs.declared.Number.{Number}
 use Rattle.numbers.specs.declared.Number.the-variants.{Is, Bad}
 use Rattle.numbers.specs.Groups.{Found, found, foundIn, numberAt}
+use Rattle.script.specs.declared.Five.{Five}
+use Rattle.script.specs.declared.Five.the-variants as F
 use Rattle.script.specs.declared.Part.{Part}
 use Rattle.script.specs.declared.Part.the-variants as P
-use Rattle.script.specs.Fields.{Parsed, broken, field, Stretch, stretch, cut, partIn, fieldTokens, tokensAt, columnAt, stretchAt, expressionAt, ofKind, eventAt}
+use Rattle.script.specs.Fields.{Parsed, broken, field, Follow, fiveIn, fiveAt, Stretch, stretch, cut, partIn, fieldTokens, tokensAt, columnAt, stretchAt, expressionAt, threeAt, geometryAt, transferAt, spanOf, ofKind, eventAt}
 
 -- a number that does not read, and one that does
 pub read-bad : (r : Number) (f : Found) (k : ℕ → ℕ → Parsed) → foundIn r ≡ f → r ≡ Bad → broken ≡ field f k
@@ -21,6 +24,15 @@ read-bad r f k e q = sym (ap (λ (x : Found). field x k) (sym e ∙ ap foundIn q
 
 pub read-is : (r : Number) (f : Found) (k : ℕ → ℕ → Parsed) (v n : ℕ) (p : Parsed) → foundIn r ≡ f → r ≡ Is v n → p ≡ k v n → p ≡ field f k
 read-is r f k v n p e q w = w ∙ sym (ap (λ (x : Found). field x k) (sym e ∙ ap foundIn q))
+
+-- the columns of bits 1 to 16
+pub five-bad : (s : List ℕ) (at mask : ℕ) (r : Five) (k : Follow) → ((follow : Follow) → fiveIn r follow ≡ fiveAt s at mask follow) → r ≡ F.Bad
+    → broken ≡ fiveAt s at mask k
+five-bad s at mask r k e q = sym (ap (λ (x : Five). fiveIn x k) q) ∙ e k
+
+pub five-is : (s : List ℕ) (at mask : ℕ) (r : Five) (k : Follow) (a b c d e n : ℕ) (p : Parsed)
+    → ((follow : Follow) → fiveIn r follow ≡ fiveAt s at mask follow) → r ≡ F.Is a b c d e n → p ≡ k a b c d e n → p ≡ fiveAt s at mask k
+five-is s at mask r k a b c d e n p h q w = w ∙ sym (ap (λ (x : Five). fiveIn x k) q) ∙ h k
 
 -- an expression's bytes
 pub tokens-bad : (s : List ℕ) (r : Part) (f : Stretch) (k : List ℕ → ℕ → Parsed) → partIn r ≡ f → r ≡ P.Bad → broken ≡ fieldTokens s f k
@@ -37,7 +49,7 @@ mask-unknown mask most x h = sym (ap (λ (b : Bool). cond b x broken) (lt-leb ma
 pub mask-known : (mask most : ℕ) (x p : Parsed) → mask ≤ most → p ≡ x → p ≡ cond (leb mask most) x broken
 mask-known mask most x p h w = w ∙ sym (ap (λ (b : Bool). cond b x broken) (le-leb mask most h))
 
-pub ruleset fields = (read-bad, read-is, tokens-bad, tokens-is, mask-unknown, mask-known)
+pub ruleset fields = (read-bad, read-is, five-bad, five-is, tokens-bad, tokens-is, mask-unknown, mask-known)
 
 -- ---- a column, an expression's bytes and their part of the script
 
@@ -95,6 +107,22 @@ pub kind-known : (s : List ℕ) (at : ℕ) (r : Number) (kind n m : ℕ) (p : Pa
     → p ≡ eventAt s at
 kind-known s at r kind n m p e q k w = w ∙ ap (λ (x : ℕ). ofKind x s n) (sym k) ∙ kind-is s at r kind n e q
 
+-- a geometry or a transfer
+span : (s : List ℕ) (n kind : ℕ) → 6 ≤ kind → kind < 8 → threeAt s n (spanOf kind) ≡ ofKind kind s n
+unfolding geometryAt transferAt
+span s n kind l h = go (eqb kind 6) refl
+  where
+    go : (t : Bool) → eqb kind 6 ≡ t → threeAt s n (spanOf kind) ≡ ofKind kind s n
+    go true y = let k : kind ≡ 6 = eqb-true kind 6 y in rw k
+    go false y = let f = eqb-false kind 6 y in let k : kind ≡ 7 = omega (arith, f) in rw k
+
+after-five : (kind : ℕ) → (kind ≡ 1 → ⊥) → (kind ≡ 2 → ⊥) → (kind ≡ 3 → ⊥) → (kind ≡ 4 → ⊥) → (kind ≡ 5 → ⊥) → 1 ≤ kind → 6 ≤ kind
+after-five kind a b c d e l = omega arith
+
+pub kind-span : (s : List ℕ) (at : ℕ) (r : Number) (kind n : ℕ) (p : Parsed) → foundIn r ≡ numberAt s at → r ≡ Is kind n → (kind ≡ 1 → ⊥) → (kind ≡ 2 → ⊥)
+    → (kind ≡ 3 → ⊥) → (kind ≡ 4 → ⊥) → (kind ≡ 5 → ⊥) → 1 ≤ kind → kind < 8 → p ≡ threeAt s n (spanOf kind) → p ≡ eventAt s at
+kind-span s at r kind n p x q a b c d e l h w = w ∙ span s n kind (after-five kind a b c d e l) h ∙ kind-is s at r kind n x q
+
 unknown : (s : List ℕ) (n kind : ℕ) → (kind ≡ 1 → ⊥) → (kind ≡ 2 → ⊥) → (kind ≡ 3 → ⊥) → (kind ≡ 4 → ⊥) → (kind ≡ 5 → ⊥) → (kind ≡ 6 → ⊥)
     → (kind ≡ 7 → ⊥) → broken ≡ ofKind kind s n
 unknown s n kind a b c d e f g =
@@ -106,6 +134,13 @@ unknown s n kind a b c d e f g =
     (cond-false (eqb kind 6) _ _ _ (ne-eqb kind 6 f)
     (cond-false (eqb kind 7) _ _ _ (ne-eqb kind 7 g) refl))))))
 
-pub kind-unknown : (s : List ℕ) (at : ℕ) (r : Number) (kind n : ℕ) → foundIn r ≡ numberAt s at → r ≡ Is kind n → (kind ≡ 1 → ⊥) → (kind ≡ 2 → ⊥)
-    → (kind ≡ 3 → ⊥) → (kind ≡ 4 → ⊥) → (kind ≡ 5 → ⊥) → (kind ≡ 6 → ⊥) → (kind ≡ 7 → ⊥) → broken ≡ eventAt s at
-kind-unknown s at r kind n x q a b c d e f g = unknown s n kind a b c d e f g ∙ kind-is s at r kind n x q
+pub kind-zero : (s : List ℕ) (at : ℕ) (r : Number) (kind n : ℕ) → foundIn r ≡ numberAt s at → r ≡ Is kind n → kind < 1 → broken ≡ eventAt s at
+kind-zero s at r kind n x q h = let k : kind ≡ 0 = omega (arith, h) in kind-known s at r kind n 0 broken x q k refl
+
+pub kind-large : (s : List ℕ) (at : ℕ) (r : Number) (kind n : ℕ) → foundIn r ≡ numberAt s at → r ≡ Is kind n → 8 ≤ kind → broken ≡ eventAt s at
+kind-large s at r kind n x q h =
+    unknown s n kind (past 1 (omega arith)) (past 2 (omega arith)) (past 3 (omega arith)) (past 4 (omega arith)) (past 5 (omega arith)) (past 6 (omega arith)) (past 7 (omega arith))
+    ∙ kind-is s at r kind n x q
+  where
+    past : (m : ℕ) → m < 8 → kind ≡ m → ⊥
+    past m l e = omega (arith, e, h, l)

@@ -5,6 +5,9 @@ ghost use lib.ListN.{length};
 ghost use Rattle.numbers.specs.Groups.{foundIn};
 ghost use Rattle.script.specs.Fields.{
   columnAt,
+  Follow,
+  fiveIn,
+  fiveAt,
   partIn,
   expressionAt,
   parsedIn,
@@ -13,8 +16,8 @@ ghost use Rattle.script.specs.Fields.{
   resetAt,
   sensorSetAt,
   bandSetAt,
-  geometryAt,
-  transferAt,
+  threeAt,
+  spanOf,
   eventAt,
 };
 ghost use Rattle.script.specs.Whole.{headerIn, headerAt, checkedIn, checkOf};
@@ -33,6 +36,12 @@ pub enum EventRead {
 // An expression's bytes: where they start, how many they are, and the place after them.
 pub enum Part {
     Is(usize, usize, usize),
+    Bad,
+}
+
+// The columns of bits 1 to 16, and the place after them.
+pub enum Five {
+    Is(u64, u64, u64, u64, u64, usize),
     Bad,
 }
 
@@ -94,6 +103,28 @@ fn reset_at(script: &[u8], at: usize) -> EventRead
     EventRead::Is(Kind::Reset(kind), 0, 0, at1)
 }
 
+// The columns of bits 1 to 16, with which the values of either Set begin.
+fn five_at(script: &[u8], at: usize, mask: u64) -> Five
+    ensures { λ r. ⌜ ((follow : Follow) → fiveIn r follow ≡ fiveAt (now (script .entry)) at mask follow) ⌝ }
+{
+    let Number::Is(first, at1) = column_at(script, at, mask, 1) else {
+        return Five::Bad;
+    };
+    let Number::Is(second, at2) = column_at(script, at1, mask, 2) else {
+        return Five::Bad;
+    };
+    let Number::Is(third, at3) = column_at(script, at2, mask, 4) else {
+        return Five::Bad;
+    };
+    let Number::Is(fourth, at4) = column_at(script, at3, mask, 8) else {
+        return Five::Bad;
+    };
+    let Number::Is(fifth, at5) = column_at(script, at4, mask, 16) else {
+        return Five::Bad;
+    };
+    Five::Is(first, second, third, fourth, fifth, at5)
+}
+
 fn sensor_set_at(script: &[u8], at: usize) -> EventRead
     ensures { λ r. ⌜ parsedIn (now (script .entry)) r ≡ sensorSetAt (now (script .entry)) at ⌝ }
 {
@@ -106,25 +137,13 @@ fn sensor_set_at(script: &[u8], at: usize) -> EventRead
     if 127 < mask {
         return EventRead::Bad;
     }
-    let Number::Is(enabled, at3) = column_at(script, at2, mask, 1) else {
+    let Five::Is(enabled, on_threshold, on_fraction, on_timeout, off_threshold, at3) = five_at(script, at2, mask) else {
         return EventRead::Bad;
     };
-    let Number::Is(on_threshold, at4) = column_at(script, at3, mask, 2) else {
+    let Number::Is(off_fraction, at4) = column_at(script, at3, mask, 32) else {
         return EventRead::Bad;
     };
-    let Number::Is(on_fraction, at5) = column_at(script, at4, mask, 4) else {
-        return EventRead::Bad;
-    };
-    let Number::Is(on_timeout, at6) = column_at(script, at5, mask, 8) else {
-        return EventRead::Bad;
-    };
-    let Number::Is(off_threshold, at7) = column_at(script, at6, mask, 16) else {
-        return EventRead::Bad;
-    };
-    let Number::Is(off_fraction, at8) = column_at(script, at7, mask, 32) else {
-        return EventRead::Bad;
-    };
-    let Number::Is(off_timeout, at9) = column_at(script, at8, mask, 64) else {
+    let Number::Is(off_timeout, at5) = column_at(script, at4, mask, 64) else {
         return EventRead::Bad;
     };
     let columns = SensorColumns {
@@ -137,7 +156,7 @@ fn sensor_set_at(script: &[u8], at: usize) -> EventRead
         off_fraction,
         off_timeout,
     };
-    EventRead::Is(Kind::SensorSet(sensor, columns), 0, 0, at9)
+    EventRead::Is(Kind::SensorSet(sensor, columns), 0, 0, at5)
 }
 
 // Where an expression's bytes stand, where the mask names it; else no bytes.
@@ -175,22 +194,10 @@ fn band_set_at(script: &[u8], at: usize) -> EventRead
     if 63 < mask {
         return EventRead::Bad;
     }
-    let Number::Is(read_lock_enabled, at3) = column_at(script, at2, mask, 1) else {
+    let Five::Is(read_lock_enabled, write_lock_enabled, read_locked, write_locked, lock_on_reset, at3) = five_at(script, at2, mask) else {
         return EventRead::Bad;
     };
-    let Number::Is(write_lock_enabled, at4) = column_at(script, at3, mask, 2) else {
-        return EventRead::Bad;
-    };
-    let Number::Is(read_locked, at5) = column_at(script, at4, mask, 4) else {
-        return EventRead::Bad;
-    };
-    let Number::Is(write_locked, at6) = column_at(script, at5, mask, 8) else {
-        return EventRead::Bad;
-    };
-    let Number::Is(lock_on_reset, at7) = column_at(script, at6, mask, 16) else {
-        return EventRead::Bad;
-    };
-    let Part::Is(start, count, at8) = expression_at(script, at7, mask) else {
+    let Part::Is(start, count, at4) = expression_at(script, at3, mask) else {
         return EventRead::Bad;
     };
     let columns = BandColumns {
@@ -201,37 +208,26 @@ fn band_set_at(script: &[u8], at: usize) -> EventRead
         write_locked,
         lock_on_reset,
     };
-    EventRead::Is(Kind::BandSet(band, columns), start, count, at8)
+    EventRead::Is(Kind::BandSet(band, columns), start, count, at4)
 }
 
-fn geometry_at(script: &[u8], at: usize) -> EventRead
-    ensures { λ r. ⌜ parsedIn (now (script .entry)) r ≡ geometryAt (now (script .entry)) at ⌝ }
+// A geometry where the kind is 6, else a transfer: three numbers either way.
+fn three_at(script: &[u8], at: usize, kind: u64) -> EventRead
+    ensures { λ r. ⌜ parsedIn (now (script .entry)) r ≡ threeAt (now (script .entry)) at (spanOf kind) ⌝ }
 {
-    let Number::Is(band, at1) = numbers::number_at(script, at) else {
+    let Number::Is(first, at1) = numbers::number_at(script, at) else {
         return EventRead::Bad;
     };
-    let Number::Is(start, at2) = numbers::number_at(script, at1) else {
+    let Number::Is(second, at2) = numbers::number_at(script, at1) else {
         return EventRead::Bad;
     };
-    let Number::Is(length, at3) = numbers::number_at(script, at2) else {
+    let Number::Is(third, at3) = numbers::number_at(script, at2) else {
         return EventRead::Bad;
     };
-    EventRead::Is(Kind::Geometry(band, start, length), 0, 0, at3)
-}
-
-fn transfer_at(script: &[u8], at: usize) -> EventRead
-    ensures { λ r. ⌜ parsedIn (now (script .entry)) r ≡ transferAt (now (script .entry)) at ⌝ }
-{
-    let Number::Is(direction, at1) = numbers::number_at(script, at) else {
-        return EventRead::Bad;
-    };
-    let Number::Is(start, at2) = numbers::number_at(script, at1) else {
-        return EventRead::Bad;
-    };
-    let Number::Is(count, at3) = numbers::number_at(script, at2) else {
-        return EventRead::Bad;
-    };
-    EventRead::Is(Kind::Transfer(direction, start, count), 0, 0, at3)
+    if kind == 6 {
+        return EventRead::Is(Kind::Geometry(first, second, third), 0, 0, at3);
+    }
+    EventRead::Is(Kind::Transfer(first, second, third), 0, 0, at3)
 }
 
 // The event at a place: its kind, and then its fields.
@@ -247,8 +243,7 @@ pub fn event_at(script: &[u8], at: usize) -> EventRead
         3 => reset_at(script, at1),
         4 => sensor_set_at(script, at1),
         5 => band_set_at(script, at1),
-        6 => geometry_at(script, at1),
-        7 => transfer_at(script, at1),
+        6 | 7 => three_at(script, at1, kind),
         _ => EventRead::Bad,
     }
 }
