@@ -39,7 +39,7 @@ pub enum Part {
     Bad,
 }
 
-// The columns of bits 1 to 16, and the place after them.
+// The columns of bits 1 to 16, by rising bit, and the place after them.
 pub enum Five {
     Is(u64, u64, u64, u64, u64, usize),
     Bad,
@@ -137,7 +137,7 @@ fn sensor_set_at(script: &[u8], at: usize) -> EventRead
     if 127 < mask {
         return EventRead::Bad;
     }
-    let Five::Is(enabled, on_threshold, on_fraction, on_timeout, off_threshold, at3) = five_at(script, at2, mask) else {
+    let Five::Is(first, second, third, fourth, fifth, at3) = five_at(script, at2, mask) else {
         return EventRead::Bad;
     };
     let Number::Is(off_fraction, at4) = column_at(script, at3, mask, 32) else {
@@ -148,11 +148,11 @@ fn sensor_set_at(script: &[u8], at: usize) -> EventRead
     };
     let columns = SensorColumns {
         mask,
-        enabled,
-        on_threshold,
-        on_fraction,
-        on_timeout,
-        off_threshold,
+        enabled: first,
+        on_threshold: second,
+        on_fraction: third,
+        on_timeout: fourth,
+        off_threshold: fifth,
         off_fraction,
         off_timeout,
     };
@@ -194,7 +194,7 @@ fn band_set_at(script: &[u8], at: usize) -> EventRead
     if 63 < mask {
         return EventRead::Bad;
     }
-    let Five::Is(read_lock_enabled, write_lock_enabled, read_locked, write_locked, lock_on_reset, at3) = five_at(script, at2, mask) else {
+    let Five::Is(first, second, third, fourth, fifth, at3) = five_at(script, at2, mask) else {
         return EventRead::Bad;
     };
     let Part::Is(start, count, at4) = expression_at(script, at3, mask) else {
@@ -202,11 +202,11 @@ fn band_set_at(script: &[u8], at: usize) -> EventRead
     };
     let columns = BandColumns {
         mask,
-        read_lock_enabled,
-        write_lock_enabled,
-        read_locked,
-        write_locked,
-        lock_on_reset,
+        read_lock_enabled: first,
+        write_lock_enabled: second,
+        read_locked: third,
+        write_locked: fourth,
+        lock_on_reset: fifth,
     };
     EventRead::Is(Kind::BandSet(band, columns), start, count, at4)
 }

@@ -15,7 +15,7 @@ enum-told c = search needs
 
 returns : tie.Need-returns
 unfolding bandSetAt
-returns c = search fields depth 24 fits 4000
+returns c = search fields depth 9 fits 4000
 
 number-at-requires-2 : tie.Need-number-at-requires-2
 number-at-requires-2 c κs = search needs
@@ -28,24 +28,24 @@ enum-told-2 c = search needs
 
 returns-2 : tie.Need-returns-2
 unfolding bandSetAt
-returns-2 c = search fields depth 24 fits 4000
+returns-2 c = search fields depth 9 fits 4000
 
 returns-3 : tie.Need-returns-3
 unfolding bandSetAt
-returns-3 c = search fields depth 24 fits 4000
+returns-3 c = search fields depth 9 fits 4000
 
 five-at-requires : tie.Need-five-at-requires
 five-at-requires c κs = search needs
 
-enum-known-read-lock-enabled : tie.Need-enum-known-read-lock-enabled
-enum-known-read-lock-enabled c = search needs
+enum-known-first : tie.Need-enum-known-first
+enum-known-first c = search needs
 
 enum-told-3 : tie.Need-enum-told-3
 enum-told-3 c = search needs
 
 returns-4 : tie.Need-returns-4
 unfolding bandSetAt
-returns-4 c = search fields depth 24 fits 4000
+returns-4 c = search fields depth 9 fits 4000
 
 expression-at-requires : tie.Need-expression-at-requires
 expression-at-requires c κs = search needs
@@ -58,11 +58,11 @@ enum-told-4 c = search needs
 
 returns-5 : tie.Need-returns-5
 unfolding bandSetAt
-returns-5 c = search fields depth 24 fits 4000
+returns-5 c = search fields depth 9 fits 4000
 
 returns-6 : tie.Need-returns-6
 unfolding bandSetAt
-returns-6 c = search fields depth 24 fits 4000
+returns-6 c = search fields depth 9 fits 4000
 
 pub band-set-at-spec : {M : Type 1} → statement M
 band-set-at-spec =
@@ -78,7 +78,7 @@ band-set-at-spec =
     returns-2
     returns-3
     five-at-requires
-    enum-known-read-lock-enabled
+    enum-known-first
     enum-told-3
     returns-4
     expression-at-requires

@@ -15,7 +15,7 @@ enum-told c = search needs
 
 returns : tie.Need-returns
 unfolding sensorSetAt
-returns c = search fields depth 24 fits 4000
+returns c = search fields depth 9 fits 4000
 
 number-at-requires-2 : tie.Need-number-at-requires-2
 number-at-requires-2 c κs = search needs
@@ -28,24 +28,24 @@ enum-told-2 c = search needs
 
 returns-2 : tie.Need-returns-2
 unfolding sensorSetAt
-returns-2 c = search fields depth 24 fits 4000
+returns-2 c = search fields depth 9 fits 4000
 
 returns-3 : tie.Need-returns-3
 unfolding sensorSetAt
-returns-3 c = search fields depth 24 fits 4000
+returns-3 c = search fields depth 9 fits 4000
 
 five-at-requires : tie.Need-five-at-requires
 five-at-requires c κs = search needs
 
-enum-known-enabled : tie.Need-enum-known-enabled
-enum-known-enabled c = search needs
+enum-known-first : tie.Need-enum-known-first
+enum-known-first c = search needs
 
 enum-told-3 : tie.Need-enum-told-3
 enum-told-3 c = search needs
 
 returns-4 : tie.Need-returns-4
 unfolding sensorSetAt
-returns-4 c = search fields depth 24 fits 4000
+returns-4 c = search fields depth 9 fits 4000
 
 column-at-requires : tie.Need-column-at-requires
 column-at-requires c κs = search needs
@@ -58,7 +58,7 @@ enum-told-4 c = search needs
 
 returns-5 : tie.Need-returns-5
 unfolding sensorSetAt
-returns-5 c = search fields depth 24 fits 4000
+returns-5 c = search fields depth 9 fits 4000
 
 column-at-requires-2 : tie.Need-column-at-requires-2
 column-at-requires-2 c κs = search needs
@@ -71,11 +71,11 @@ enum-told-5 c = search needs
 
 returns-6 : tie.Need-returns-6
 unfolding sensorSetAt
-returns-6 c = search fields depth 24 fits 4000
+returns-6 c = search fields depth 9 fits 4000
 
 returns-7 : tie.Need-returns-7
 unfolding sensorSetAt
-returns-7 c = search fields depth 24 fits 4000
+returns-7 c = search fields depth 9 fits 4000
 
 pub sensor-set-at-spec : {M : Type 1} → statement M
 sensor-set-at-spec =
@@ -91,7 +91,7 @@ sensor-set-at-spec =
     returns-2
     returns-3
     five-at-requires
-    enum-known-enabled
+    enum-known-first
     enum-told-3
     returns-4
     column-at-requires
