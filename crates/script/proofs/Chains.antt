@@ -12,11 +12,12 @@ use Rattle.base.proofs.Cases.{cond-true, cond-false}
 use Rattle.numbers.specs.declared.Number.{Number}
 use Rattle.numbers.specs.declared.Number.the-variants.{Is, Bad}
 use Rattle.numbers.specs.Groups.{Found, found, foundIn, numberAt}
+use Rattle.drive.specs.Events.{geometry, transfer}
 use Rattle.script.specs.declared.Five.{Five}
 use Rattle.script.specs.declared.Five.the-variants as F
 use Rattle.script.specs.declared.Part.{Part}
 use Rattle.script.specs.declared.Part.the-variants as P
-use Rattle.script.specs.Fields.{Parsed, broken, field, Follow, fiveIn, fiveAt, Stretch, stretch, cut, partIn, fieldTokens, tokensAt, columnAt, stretchAt, expressionAt, threeAt, geometryAt, transferAt, spanOf, ofKind, eventAt}
+use Rattle.script.specs.Fields.{Parsed, event, broken, field, Follow, fiveIn, fiveAt, Stretch, stretch, cut, partIn, fieldTokens, tokensAt, columnAt, stretchAt, expressionAt, geometryAt, transferAt, ofKind, eventAt}
 
 -- a number that does not read, and one that does
 pub read-bad : (r : Number) (f : Found) (k : ℕ → ℕ → Parsed) → foundIn r ≡ f → r ≡ Bad → broken ≡ field f k
@@ -92,6 +93,24 @@ module _ (s : List ℕ) (at mask : ℕ) (r : Number) (h : mask / 32 % 2 ≡ 1) (
         (cond-true (leb n (length s)) _ _ _ (le-leb n (length s) l) (cond-true (leb size (length s - n)) _ _ _ (le-leb size (length s - n) m) refl))
         ∙ at-size
 
+-- ---- three numbers, and what they and the place after them go on to
+
+abbrev pub threeAt : List ℕ → ℕ → (ℕ → ℕ → ℕ → ℕ → Parsed) → Parsed
+threeAt s at follow =
+    field (numberAt s at) (λ a at. field (numberAt s at) (λ b at. field (numberAt s at) (λ c at. follow a b c at)))
+
+-- the test of the kind may come after them
+pub either : (s : List ℕ) (at kind : ℕ) (p : Parsed)
+    → p ≡ threeAt s at (λ a b c n. cond (eqb kind 6) (event (geometry a b c) n) (event (transfer a b c) n))
+    → p ≡ cond (eqb kind 6) (geometryAt s at) (transferAt s at)
+unfolding geometryAt transferAt
+either s at kind p w = go (eqb kind 6) w
+  where
+    go : (t : Bool) → p ≡ threeAt s at (λ a b c n. cond t (event (geometry a b c) n) (event (transfer a b c) n))
+        → p ≡ cond t (geometryAt s at) (transferAt s at)
+    go true w = w
+    go false w = w
+
 -- ---- the kind
 
 pub kind-bad : (s : List ℕ) (at : ℕ) (r : Number) → foundIn r ≡ numberAt s at → r ≡ Bad → broken ≡ eventAt s at
@@ -108,11 +127,10 @@ pub kind-known : (s : List ℕ) (at : ℕ) (r : Number) (kind n m : ℕ) (p : Pa
 kind-known s at r kind n m p e q k w = w ∙ ap (λ (x : ℕ). ofKind x s n) (sym k) ∙ kind-is s at r kind n e q
 
 -- a geometry or a transfer
-span : (s : List ℕ) (n kind : ℕ) → 6 ≤ kind → kind < 8 → threeAt s n (spanOf kind) ≡ ofKind kind s n
-unfolding geometryAt transferAt
+span : (s : List ℕ) (n kind : ℕ) → 6 ≤ kind → kind < 8 → cond (eqb kind 6) (geometryAt s n) (transferAt s n) ≡ ofKind kind s n
 span s n kind l h = go (eqb kind 6) refl
   where
-    go : (t : Bool) → eqb kind 6 ≡ t → threeAt s n (spanOf kind) ≡ ofKind kind s n
+    go : (t : Bool) → eqb kind 6 ≡ t → cond (eqb kind 6) (geometryAt s n) (transferAt s n) ≡ ofKind kind s n
     go true y = let k : kind ≡ 6 = eqb-true kind 6 y in rw k
     go false y = let f = eqb-false kind 6 y in let k : kind ≡ 7 = omega (arith, f) in rw k
 
@@ -120,7 +138,7 @@ after-five : (kind : ℕ) → (kind ≡ 1 → ⊥) → (kind ≡ 2 → ⊥) → 
 after-five kind a b c d e l = omega arith
 
 pub kind-span : (s : List ℕ) (at : ℕ) (r : Number) (kind n : ℕ) (p : Parsed) → foundIn r ≡ numberAt s at → r ≡ Is kind n → (kind ≡ 1 → ⊥) → (kind ≡ 2 → ⊥)
-    → (kind ≡ 3 → ⊥) → (kind ≡ 4 → ⊥) → (kind ≡ 5 → ⊥) → 1 ≤ kind → kind < 8 → p ≡ threeAt s n (spanOf kind) → p ≡ eventAt s at
+    → (kind ≡ 3 → ⊥) → (kind ≡ 4 → ⊥) → (kind ≡ 5 → ⊥) → 1 ≤ kind → kind < 8 → p ≡ cond (eqb kind 6) (geometryAt s n) (transferAt s n) → p ≡ eventAt s at
 kind-span s at r kind n p x q a b c d e l h w = w ∙ span s n kind (after-five kind a b c d e l) h ∙ kind-is s at r kind n x q
 
 unknown : (s : List ℕ) (n kind : ℕ) → (kind ≡ 1 → ⊥) → (kind ≡ 2 → ⊥) → (kind ≡ 3 → ⊥) → (kind ≡ 4 → ⊥) → (kind ≡ 5 → ⊥) → (kind ≡ 6 → ⊥)

@@ -31,11 +31,11 @@ use Rattle.script.specs.Fields.{
   sensorSetAt,
   bandSetAt,
   geometryAt,
-  threeAt,
   transferAt,
   ofKind,
   eventAt,
 }
+use Rattle.script.proofs.Chains.{threeAt}
 
 -- what was found ends between two places
 

@@ -34,12 +34,10 @@ Follow = ℕ → ℕ → ℕ → ℕ → ℕ → ℕ → Parsed
 
 unfoldable pub fiveAt : List ℕ → ℕ → ℕ → Follow → Parsed
 fiveAt s at mask follow =
-    field (columnAt s at mask 1) (λ a at.
-    field (columnAt s at mask 2) (λ b at.
-    field (columnAt s at mask 4) (λ c at.
-    field (columnAt s at mask 8) (λ d at.
-    field (columnAt s at mask 16) (λ e at. follow a b c d e at)))))
+    field (columnAt s at mask 1) (λ a at. field (columnAt s at mask 2) (λ b at. field (columnAt s at mask 4) (λ c at.
+    field (columnAt s at mask 8) (λ d at. field (columnAt s at mask 16) (λ e at. follow a b c d e at)))))
 
+-- the code's answer in these terms
 abbrev pub fiveIn : Five → Follow → Parsed
 fiveIn (F.Is a b c d e next) follow = follow a b c d e next
 fiveIn F.Bad follow = broken
@@ -119,22 +117,16 @@ bandSetAt s at =
     }) tokens) at)))
     broken))
 
--- three numbers, and what they and the place after them go on to
-abbrev pub threeAt : List ℕ → ℕ → (ℕ → ℕ → ℕ → ℕ → Parsed) → Parsed
-threeAt s at follow =
-    field (numberAt s at) (λ a at. field (numberAt s at) (λ b at. field (numberAt s at) (λ c at. follow a b c at)))
-
 -- 6 "geometry (band, start, length)"
 unfoldable pub geometryAt : List ℕ → ℕ → Parsed
-geometryAt s at = threeAt s at (λ band start length at. event (geometry band start length) at)
+geometryAt s at =
+    field (numberAt s at) (λ band at. field (numberAt s at) (λ start at. field (numberAt s at) (λ length at. event (geometry band start length) at)))
 
 -- 7 "transfer (0 read or 1 write, start, count)"
 unfoldable pub transferAt : List ℕ → ℕ → Parsed
-transferAt s at = threeAt s at (λ direction start count at. event (transfer direction start count) at)
-
--- either, as the code reads them: a geometry where the kind is 6
-abbrev pub spanOf : ℕ → ℕ → ℕ → ℕ → ℕ → Parsed
-spanOf kind a b c at = cond (eqb kind 6) (event (geometry a b c) at) (event (transfer a b c) at)
+transferAt s at =
+    field (numberAt s at) (λ direction at.
+    field (numberAt s at) (λ start at. field (numberAt s at) (λ count at. event (transfer direction start count) at)))
 
 -- the event of a kind, whose fields begin at a place; "an unknown kind" is bad
 abbrev pub ofKind : ℕ → List ℕ → ℕ → Parsed

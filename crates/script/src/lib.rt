@@ -1,6 +1,8 @@
 // Scripts (document 01, 'Script'): the header and the events, read at their places.
 ghost use mathlib.Core.Path.{_≡_};
 ghost use Prim.Native.Nat.{_<_};
+ghost use mathlib.Core.Bool.{cond};
+ghost use lib.Dec.{eqb};
 ghost use lib.ListN.{length};
 ghost use Rattle.numbers.specs.Groups.{foundIn};
 ghost use Rattle.script.specs.Fields.{
@@ -16,8 +18,8 @@ ghost use Rattle.script.specs.Fields.{
   resetAt,
   sensorSetAt,
   bandSetAt,
-  threeAt,
-  spanOf,
+  geometryAt,
+  transferAt,
   eventAt,
 };
 ghost use Rattle.script.specs.Whole.{headerIn, headerAt, checkedIn, checkOf};
@@ -213,7 +215,7 @@ fn band_set_at(script: &[u8], at: usize) -> EventRead
 
 // A geometry where the kind is 6, else a transfer: three numbers either way.
 fn three_at(script: &[u8], at: usize, kind: u64) -> EventRead
-    ensures { λ r. ⌜ parsedIn (now (script .entry)) r ≡ threeAt (now (script .entry)) at (spanOf kind) ⌝ }
+    ensures { λ r. ⌜ parsedIn (now (script .entry)) r ≡ cond (eqb kind 6) (geometryAt (now (script .entry)) at) (transferAt (now (script .entry)) at) ⌝ }
 {
     let Number::Is(first, at1) = numbers::number_at(script, at) else {
         return EventRead::Bad;
