@@ -1,5 +1,6 @@
 use Rattle.script.specs.Fields.{bandSetAt}
-use Rattle.script.proofs.Chains.{fields}
+use Rattle.script.proofs.Chains.{fields, band-read}
+use borrow.Author.Tests.{not-false}
 use borrow.Author.Needs.{needs}
 use Rattle.script.proofs.band_set_at.Statement.{statement}
 use Rattle.script.proofs.band_set_at.Tie as tie
@@ -34,14 +35,8 @@ returns-3 : tie.Need-returns-3
 unfolding bandSetAt
 returns-3 c = search fields depth 9 fits 4000
 
-five-at-requires : tie.Need-five-at-requires
-five-at-requires c κs = search needs
-
-enum-known-first : tie.Need-enum-known-first
-enum-known-first c = search needs
-
-enum-told-3 : tie.Need-enum-told-3
-enum-told-3 c = search needs
+values-at-requires : tie.Need-values-at-requires
+values-at-requires c κs = search needs
 
 returns-4 : tie.Need-returns-4
 unfolding bandSetAt
@@ -53,16 +48,18 @@ expression-at-requires c κs = search needs
 enum-known-start : tie.Need-enum-known-start
 enum-known-start c = search needs
 
-enum-told-4 : tie.Need-enum-told-4
-enum-told-4 c = search needs
+enum-told-3 : tie.Need-enum-told-3
+enum-told-3 c = search needs
 
 returns-5 : tie.Need-returns-5
 unfolding bandSetAt
 returns-5 c = search fields depth 9 fits 4000
 
+band-columns-requires : tie.Need-band-columns-requires
+band-columns-requires c κs = search needs
+
 returns-6 : tie.Need-returns-6
-unfolding bandSetAt
-returns-6 c = search fields depth 9 fits 4000
+returns-6 c = search (band-read, not-false)
 
 pub band-set-at-spec : {M : Type 1} → statement M
 band-set-at-spec =
@@ -77,12 +74,11 @@ band-set-at-spec =
     enum-told-2
     returns-2
     returns-3
-    five-at-requires
-    enum-known-first
-    enum-told-3
+    values-at-requires
     returns-4
     expression-at-requires
     enum-known-start
-    enum-told-4
+    enum-told-3
     returns-5
+    band-columns-requires
     returns-6)
