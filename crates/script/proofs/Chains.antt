@@ -7,7 +7,7 @@ use mathlib.Core.List.{List, [], _∷_, _++_}
 use lib.Dec.{eqb, leb}
 use lib.ListN.{length, set, take, length-set}
 use lib.Seq.{take-all, take-suc-set}
-use borrow.Author.Tests.{le-leb, lt-leb, eq-eqb, ne-eqb, eqb-true, eqb-false, not-true, not-false}
+use borrow.Author.Tests.{le-leb, lt-leb, eq-eqb, ne-eqb, eqb-true, eqb-false, leb-true, not-true, not-false}
 use Rattle.base.specs.Columns.{named}
 use Rattle.base.proofs.Cases.{cond-true, cond-false}
 use Rattle.numbers.specs.declared.Number.{Number}
@@ -45,8 +45,8 @@ pub tokens-is : (s : List ℕ) (r : Part) (f : Stretch) (k : List ℕ → ℕ �
 tokens-is s r f k start count n p e q w = w ∙ sym (ap (λ (x : Stretch). fieldTokens s x k) (sym e ∙ ap partIn q))
 
 -- a mask with an unknown bit, and one without
-pub mask-unknown : (mask most : ℕ) (x : Parsed) → most < mask → broken ≡ cond (leb mask most) x broken
-mask-unknown mask most x h = sym (ap (λ (b : Bool). cond b x broken) (lt-leb mask most h))
+pub mask-unknown : (mask most limit : ℕ) (x : Parsed) → limit < mask → leb most limit ≡ true → broken ≡ cond (leb mask most) x broken
+mask-unknown mask most limit x h k = sym (ap (λ (b : Bool). cond b x broken) (lt-leb mask most (omega (arith, h, leb-true most limit k))))
 
 pub mask-known : (mask most : ℕ) (x p : Parsed) → mask ≤ most → p ≡ x → p ≡ cond (leb mask most) x broken
 mask-known mask most x p h w = w ∙ sym (ap (λ (b : Bool). cond b x broken) (le-leb mask most h))
