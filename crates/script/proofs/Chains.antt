@@ -1,24 +1,23 @@
 -- Fields one after the other: what a call found, and what is read on from there. `search fields` goes along a chain of them.
 use mathlib.Core.Path.{_≡_, refl, sym, ap, _∙_}
-use Prim.Native.Nat.{ℕ, suc, _+_, _-_, _/_, _%_, _≤_, _<_}
+use Prim.Native.Nat.{ℕ, _+_, _-_, _/_, _%_, _≤_, _<_}
 use native.Mathlib.Omega.{arith}
 use mathlib.Core.Bool.{Bool, true, false, cond}
-use mathlib.Core.List.{List, [], _∷_, _++_}
+use mathlib.Core.List.{List}
 use lib.Dec.{eqb, leb}
-use lib.ListN.{length, set, take, length-set}
-use lib.Seq.{take-all, take-suc-set}
-use borrow.Author.Tests.{le-leb, lt-leb, eq-eqb, ne-eqb, eqb-true, eqb-false, leb-true, not-true, not-false}
+use lib.ListN.{length}
+use borrow.Author.Tests.{le-leb, lt-leb, eq-eqb, ne-eqb, eqb-true, eqb-false, leb-true}
 use Rattle.base.specs.Columns.{named}
 use Rattle.base.proofs.Cases.{cond-true, cond-false}
 use Rattle.numbers.specs.declared.Number.{Number}
 use Rattle.numbers.specs.declared.Number.the-variants.{Is, Bad}
 use Rattle.numbers.specs.Groups.{Found, found, foundIn, numberAt}
-use Rattle.drive.specs.Events.{bandSet, geometry, transfer}
-use Rattle.band.specs.declared.BandColumns.{BandColumns}
-use Rattle.script.specs.declared.Values.{Values}
+use Rattle.drive.specs.Events.{geometry, transfer}
+use Rattle.script.specs.declared.Five.{Five}
+use Rattle.script.specs.declared.Five.the-variants as F
 use Rattle.script.specs.declared.Part.{Part}
 use Rattle.script.specs.declared.Part.the-variants as P
-use Rattle.script.specs.Fields.{Parsed, event, broken, field, valueAt, Follow, valuesIn, valuesAt, Stretch, stretch, cut, partIn, fieldTokens, tokensAt, stretchAt, expressionAt, bandColumns, bandSetAt, geometryAt, transferAt, ofKind, eventAt}
+use Rattle.script.specs.Fields.{Parsed, event, broken, field, Follow, fiveIn, fiveAt, Stretch, stretch, cut, partIn, fieldTokens, tokensAt, columnAt, stretchAt, expressionAt, geometryAt, transferAt, ofKind, eventAt}
 
 -- a number that does not read, and one that does
 pub read-bad : (r : Number) (f : Found) (k : ℕ → ℕ → Parsed) → foundIn r ≡ f → r ≡ Bad → broken ≡ field f k
@@ -27,14 +26,14 @@ read-bad r f k e q = sym (ap (λ (x : Found). field x k) (sym e ∙ ap foundIn q
 pub read-is : (r : Number) (f : Found) (k : ℕ → ℕ → Parsed) (v n : ℕ) (p : Parsed) → foundIn r ≡ f → r ≡ Is v n → p ≡ k v n → p ≡ field f k
 read-is r f k v n p e q w = w ∙ sym (ap (λ (x : Found). field x k) (sym e ∙ ap foundIn q))
 
--- the values of a Set
-pub values-bad : (s : List ℕ) (at mask : ℕ) (r : Values) (k : Follow) → ((follow : Follow) → valuesIn r follow ≡ valuesAt 7 s at mask [] follow)
-    → r .good ≡ false → broken ≡ valuesAt 7 s at mask [] k
-values-bad s at mask r k e q = cond-false (r .good) _ _ _ q refl ∙ e k
+-- the columns of bits 1 to 16
+pub five-bad : (s : List ℕ) (at mask : ℕ) (r : Five) (k : Follow) → ((follow : Follow) → fiveIn r follow ≡ fiveAt s at mask follow) → r ≡ F.Bad
+    → broken ≡ fiveAt s at mask k
+five-bad s at mask r k e q = sym (ap (λ (x : Five). fiveIn x k) q) ∙ e k
 
-pub values-is : (s : List ℕ) (at mask : ℕ) (r : Values) (k : Follow) (p : Parsed) → ((follow : Follow) → valuesIn r follow ≡ valuesAt 7 s at mask [] follow)
-    → r .good ≡ true → p ≡ k (r .values) (r .next) → p ≡ valuesAt 7 s at mask [] k
-values-is s at mask r k p e q w = cond-true (r .good) _ _ _ q w ∙ e k
+pub five-is : (s : List ℕ) (at mask : ℕ) (r : Five) (k : Follow) (a b c d e n : ℕ) (p : Parsed)
+    → ((follow : Follow) → fiveIn r follow ≡ fiveAt s at mask follow) → r ≡ F.Is a b c d e n → p ≡ k a b c d e n → p ≡ fiveAt s at mask k
+five-is s at mask r k a b c d e n p h q w = w ∙ sym (ap (λ (x : Five). fiveIn x k) q) ∙ h k
 
 -- an expression's bytes
 pub tokens-bad : (s : List ℕ) (r : Part) (f : Stretch) (k : List ℕ → ℕ → Parsed) → partIn r ≡ f → r ≡ P.Bad → broken ≡ fieldTokens s f k
@@ -51,28 +50,15 @@ mask-unknown mask most limit x h k = sym (ap (λ (b : Bool). cond b x broken) (l
 pub mask-known : (mask most : ℕ) (x p : Parsed) → mask ≤ most → p ≡ x → p ≡ cond (leb mask most) x broken
 mask-known mask most x p h w = w ∙ sym (ap (λ (b : Bool). cond b x broken) (le-leb mask most h))
 
-pub ruleset fields = (read-bad, read-is, values-bad, values-is, not-true, not-false, tokens-bad, tokens-is, mask-unknown, mask-known)
+pub ruleset fields = (read-bad, read-is, five-bad, five-is, tokens-bad, tokens-is, mask-unknown, mask-known)
 
--- a band Set, read to its end
-pub band-read : (s : List ℕ) (at band n mask m start count next : ℕ) (a b : Number) (r : Values) (t : Part) (columns : BandColumns) → foundIn a ≡ numberAt s at
-    → a ≡ Is band n → foundIn b ≡ numberAt s n → b ≡ Is mask m → mask ≤ 63 → ((follow : Follow) → valuesIn r follow ≡ valuesAt 7 s m (mask % 32) [] follow)
-    → r .good ≡ true → partIn t ≡ expressionAt s (r .next) mask → t ≡ P.Is start count next → columns ≡ bandColumns mask (r .values)
-    → event (bandSet band columns (tokensAt s start count)) next ≡ bandSetAt s at
-unfolding bandSetAt
-band-read s at band n mask m start count next a b r t columns e q f u l h g d y w =
-    read-is a (numberAt s at) _ band n _ e q
-    (read-is b (numberAt s n) _ mask m _ f u
-    (mask-known mask 63 _ _ l
-    (values-is s m (mask % 32) r _ _ h g
-    (tokens-is s t (expressionAt s (r .next) mask) _ start count next _ d y (ap (λ (x : BandColumns). event (bandSet band x (tokensAt s start count)) next) w)))))
+-- ---- a column, an expression's bytes and their part of the script
 
--- ---- a value, an expression's bytes and their part of the script
+pub column-named : (s : List ℕ) (at mask bit : ℕ) (r : Number) → mask / bit % 2 ≡ 1 → foundIn r ≡ numberAt s at → foundIn r ≡ columnAt s at mask bit
+column-named s at mask bit r e q = cond-true (named bit mask) _ _ _ (eq-eqb (mask / bit % 2) 1 e) q
 
-pub value-named : (s : List ℕ) (at mask : ℕ) (r : Number) → mask % 2 ≡ 1 → foundIn r ≡ numberAt s at → foundIn r ≡ valueAt s at mask
-value-named s at mask r e q = cond-true (eqb (mask % 2) 1) _ _ _ (eq-eqb (mask % 2) 1 e) q
-
-pub value-free : (s : List ℕ) (at mask : ℕ) → (mask % 2 ≡ 1 → ⊥) → found 0 at ≡ valueAt s at mask
-value-free s at mask n = cond-false (eqb (mask % 2) 1) _ _ _ (ne-eqb (mask % 2) 1 n) refl
+pub column-free : (s : List ℕ) (at mask bit : ℕ) → (mask / bit % 2 ≡ 1 → ⊥) → found 0 at ≡ columnAt s at mask bit
+column-free s at mask bit n = cond-false (named bit mask) _ _ _ (ne-eqb (mask / bit % 2) 1 n) refl
 
 pub no-expression : (s : List ℕ) (at mask : ℕ) → (mask / 32 % 2 ≡ 1 → ⊥) → stretch 0 0 at ≡ expressionAt s at mask
 no-expression s at mask n = cond-false (named 32 mask) _ _ _ (ne-eqb (mask / 32 % 2) 1 n) refl
@@ -176,49 +162,3 @@ kind-large s at r kind n x q h =
   where
     past : (m : ℕ) → m < 8 → kind ≡ m → ⊥
     past m l e = omega (arith, e, h, l)
-
--- ---- the loop over a mask's bits: what is left of them decides, with the values read so far
-
-pub record Reading (s : List ℕ) (start mask : ℕ) (values : List ℕ) (at left i : ℕ) : Type 0 where
-  pub low : i ≤ 7
-  pub long : length values ≡ 7
-  pub same : (follow : Follow) → valuesAt (7 - i) s at left (take i values) follow ≡ valuesAt 7 s start mask [] follow
-
-pub read-begin : (s : List ℕ) (start mask : ℕ) (values : List ℕ) → length values ≡ 7 → Reading s start mask values start mask 0
-read-begin s start mask values e = record { low = omega arith; long = e; same = λ follow. refl }
-
-module _ (s : List ℕ) (start mask : ℕ) (values : List ℕ) (at left i : ℕ) (t : Reading s start mask values at left i) (h : i < 7) (r : Number)
-    (e : foundIn r ≡ valueAt s at left) where
-  turn : (follow : Follow)
-      → field (foundIn r) (λ v n. valuesAt (7 - (i + 1)) s n (left / 2) (take i values ++ (v ∷ [])) follow) ≡ valuesAt 7 s start mask [] follow
-  unfolding valuesAt
-  turn follow =
-      let k : 7 - i ≡ suc (7 - (i + 1)) = omega arith in
-      ap (λ (x : Found). field x (λ v n. valuesAt (7 - (i + 1)) s n (left / 2) (take i values ++ (v ∷ [])) follow)) e
-      ∙ sym (ap (λ (x : ℕ). valuesAt x s at left (take i values) follow) k)
-      ∙ t .same follow
-
-  pub read-again : (v n : ℕ) → r ≡ Is v n → Reading s start mask (set values i v) n (left / 2) (i + 1)
-  read-again v n q =
-      let l : i < length values = omega (arith, t .long) in
-      let k : i + 1 ≡ suc i = omega arith in
-      let w : take (i + 1) (set values i v) ≡ take i values ++ (v ∷ []) = ap (λ (x : ℕ). take x (set values i v)) k ∙ take-suc-set values i v l in
-      record {
-        low = omega arith;
-        long = length-set values i v ∙ t .long;
-        same = λ follow. ap (λ (x : List ℕ). valuesAt (7 - (i + 1)) s n (left / 2) x follow) w
-            ∙ sym (ap (λ (x : Number). field (foundIn x) (λ v n. valuesAt (7 - (i + 1)) s n (left / 2) (take i values ++ (v ∷ [])) follow)) q)
-            ∙ turn follow;
-      }
-
-  pub read-broken : r ≡ Bad → (follow : Follow) → broken ≡ valuesAt 7 s start mask [] follow
-  read-broken q follow =
-      sym (ap (λ (x : Number). field (foundIn x) (λ v n. valuesAt (7 - (i + 1)) s n (left / 2) (take i values ++ (v ∷ [])) follow)) q) ∙ turn follow
-
-pub read-done : (s : List ℕ) (start mask : ℕ) (values : List ℕ) (at left i : ℕ) → Reading s start mask values at left i → 7 ≤ i
-    → (follow : Follow) (p : Parsed) → p ≡ follow values at → p ≡ valuesAt 7 s start mask [] follow
-unfolding valuesAt
-read-done s start mask values at left i t h follow p y =
-    let z : 7 - i ≡ 0 = omega arith in
-    let w : take i values ≡ values = take-all i values (omega (arith, t .long)) in
-    y ∙ sym (ap (λ (x : List ℕ). follow x at) w) ∙ sym (ap (λ (x : ℕ). valuesAt x s at left (take i values) follow) z) ∙ t .same follow

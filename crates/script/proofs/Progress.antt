@@ -1,8 +1,8 @@
 -- An event ends at least two bytes after the place at which it starts, and within the script.
 use mathlib.Core.Path.{_≡_, refl, subst}
-use Prim.Native.Nat.{ℕ, zero, suc, _+_, _-_, _*_, _/_, _%_, _≤_, _<_}
+use Prim.Native.Nat.{ℕ, suc, _+_, _-_, _*_, _%_, _≤_, _<_}
 use native.Mathlib.Omega.{arith}
-use mathlib.Core.List.{List, [], _∷_, _++_}
+use mathlib.Core.List.{List, [], _∷_}
 use mathlib.Core.Bool.{Bool, true, false, cond}
 use lib.Dec.{eqb, leb, ltb}
 use lib.ListN.{length, drop, drop-of-length-le, length-drop}
@@ -15,9 +15,9 @@ use Rattle.script.specs.Fields.{
   event,
   broken,
   field,
-  valueAt,
+  columnAt,
   Follow,
-  valuesAt,
+  fiveAt,
   Stretch,
   stretch,
   cut,
@@ -101,8 +101,8 @@ number-at s at = go (ltb (length s) at) refl
 number-here : (s : List ℕ) (at : ℕ) → NumberIn at (length s) (numberAt s at)
 number-here s at = number-later at (at + 1) (length s) (length s) (numberAt s at) (omega arith) (omega arith) (number-at s at)
 
-value-at : (s : List ℕ) (at mask : ℕ) → at ≤ length s → NumberIn at (length s) (valueAt s at mask)
-value-at s at mask h = number-either at (length s) (eqb (mask % 2) 1) (numberAt s at) (found 0 at) (number-here s at) (omega arith, h)
+column-at : (s : List ℕ) (at mask bit : ℕ) → at ≤ length s → NumberIn at (length s) (columnAt s at mask bit)
+column-at s at mask bit h = number-either at (length s) (named bit mask) (numberAt s at) (found 0 at) (number-here s at) (omega arith, h)
 
 -- fields one after the other
 
@@ -128,19 +128,16 @@ on-tokens : (s : List ℕ) (a z : ℕ) (f : Stretch) (k : List ℕ → ℕ → P
 on-tokens s a z (stretch start count n) k h c = event-later a n z (k (tokensAt s start count) n) (h .0) (c (tokensAt s start count) n (h .1))
 on-tokens s a z cut k h c = tt
 
--- the first field is a number; so may the next be
+-- the first field is a number; so may the next be, or a column
 on-first : (s : List ℕ) (at : ℕ) (k : ℕ → ℕ → Parsed) → ((v n : ℕ) → n ≤ length s → EventIn n (length s) (k v n)) → EventIn (at + 1) (length s) (field (numberAt s at) k)
 on-first s at k c = on-field (at + 1) (length s) (numberAt s at) k (number-at s at) c
 
 on-number : (s : List ℕ) (at : ℕ) (k : ℕ → ℕ → Parsed) → ((v n : ℕ) → n ≤ length s → EventIn n (length s) (k v n)) → EventIn at (length s) (field (numberAt s at) k)
 on-number s at k c = on-field at (length s) (numberAt s at) k (number-here s at) c
 
-on-values : (m : ℕ) (s : List ℕ) (at mask : ℕ) (seen : List ℕ) → at ≤ length s → (k : Follow) → ((v : List ℕ) (n : ℕ) → n ≤ length s → EventIn n (length s) (k v n))
-    → EventIn at (length s) (valuesAt m s at mask seen k)
-unfolding valuesAt
-on-values zero s at mask seen h k c = c seen at h
-on-values (suc m) s at mask seen h k c =
-    on-field at (length s) (valueAt s at mask) _ (value-at s at mask h) (λ v n l. on-values m s n (mask / 2) (seen ++ (v ∷ [])) l k c)
+on-column : (s : List ℕ) (at mask bit : ℕ) → at ≤ length s → (k : ℕ → ℕ → Parsed) → ((v n : ℕ) → n ≤ length s → EventIn n (length s) (k v n))
+    → EventIn at (length s) (field (columnAt s at mask bit) k)
+on-column s at mask bit h k c = on-field at (length s) (columnAt s at mask bit) k (column-at s at mask bit h) c
 
 -- ---- the seven kinds
 
@@ -170,6 +167,13 @@ from-transfer : (s : List ℕ) (at : ℕ) → EventIn (at + 1) (length s) (trans
 unfolding transferAt
 from-transfer s at = from-three s at transfer
 
+on-five : (s : List ℕ) (at mask : ℕ) → at ≤ length s → (k : Follow) → ((a b c d e n : ℕ) → n ≤ length s → EventIn n (length s) (k a b c d e n))
+    → EventIn at (length s) (fiveAt s at mask k)
+unfolding fiveAt
+on-five s at mask h k g =
+    on-column s at mask 1 h _ (λ a b hb. on-column s b mask 2 hb _ (λ c d hd. on-column s d mask 4 hd _ (λ e f hf. on-column s f mask 8 hf _ (λ i j hj.
+    on-column s j mask 16 hj _ (λ l n hn. g a c e i l n hn)))))
+
 -- a row and its mask, and what follows where no bit of the mask is unknown
 on-set : (s : List ℕ) (at most : ℕ) (k : ℕ → ℕ → ℕ → Parsed) → ((row mask n : ℕ) → n ≤ length s → EventIn n (length s) (k row mask n))
     → EventIn (at + 1) (length s) (field (numberAt s at) (λ row at. field (numberAt s at) (λ mask at. cond (leb mask most) (k row mask at) broken)))
@@ -179,12 +183,13 @@ on-set s at most k c =
 from-sensor-set : (s : List ℕ) (at : ℕ) → EventIn (at + 1) (length s) (sensorSetAt s at)
 unfolding sensorSetAt
 from-sensor-set s at =
-    on-set s at 127 _ (λ _ m b hb. on-values 7 s b m [] hb _ (λ _ g hg. last g (length s) hg))
+    on-set s at 127 _ (λ _ m b hb. on-five s b m hb _ (λ _ _ _ _ _ g hg.
+    on-column s g m 32 hg _ (λ _ h hh. on-column s h m 64 hh _ (λ _ i hi. last i (length s) hi))))
 
 from-band-set : (s : List ℕ) (at : ℕ) → EventIn (at + 1) (length s) (bandSetAt s at)
 unfolding bandSetAt
 from-band-set s at =
-    on-set s at 63 _ (λ _ m b hb. on-values 7 s b (m % 32) [] hb _ (λ _ g hg.
+    on-set s at 63 _ (λ _ m b hb. on-five s b m hb _ (λ _ _ _ _ _ g hg.
     on-tokens s g (length s) (expressionAt s g m) _ (expression-at s g m hg) (λ _ h hh. last h (length s) hh)))
 
 of-kind : (kind : ℕ) (s : List ℕ) (at : ℕ) → EventIn (at + 1) (length s) (ofKind kind s at)

@@ -1,17 +1,16 @@
 -- Document 01, 'Script': the events and their fields, each read at its place.
-use Prim.Native.Nat.{ℕ, zero, suc, _+_, _-_, _/_, _%_}
+use Prim.Native.Nat.{ℕ, _+_, _-_}
 use mathlib.Core.Bool.{cond}
-use mathlib.Core.List.{List, [], _∷_, _++_}
+use mathlib.Core.List.{List, []}
 use lib.Dec.{eqb, leb}
-use lib.ListN.{length, getD, take, drop}
+use lib.ListN.{length, take, drop}
 use Rattle.base.specs.Columns.{named}
 use Rattle.numbers.specs.Groups.{Found, found, none, numberAt}
 use Rattle.drive.specs.Events.{Event, reading, elapse, reset, sensorSet, bandSet, geometry, transfer, eventOf}
-use Rattle.sensor.specs.declared.columns.SensorColumns.{SensorColumns}
-use Rattle.band.specs.declared.BandColumns.{BandColumns}
 use Rattle.script.specs.declared.EventRead.{EventRead}
 use Rattle.script.specs.declared.EventRead.the-variants as R
-use Rattle.script.specs.declared.Values.{Values}
+use Rattle.script.specs.declared.Five.{Five}
+use Rattle.script.specs.declared.Five.the-variants as F
 use Rattle.script.specs.declared.Part.{Part}
 use Rattle.script.specs.declared.Part.the-variants as P
 
@@ -25,21 +24,23 @@ abbrev pub field : Found → (ℕ → ℕ → Parsed) → Parsed
 field (found v next) follow = follow v next
 field none follow = broken
 
--- the value of a mask's lowest bit where the mask has it, else 0, which takes no bytes
-abbrev pub valueAt : List ℕ → ℕ → ℕ → Found
-valueAt s at mask = cond (eqb (mask % 2) 1) (numberAt s at) (found 0 at)
+-- "values by rising bit": the column of a bit where the mask names it, else 0, which takes no bytes
+abbrev pub columnAt : List ℕ → ℕ → ℕ → ℕ → Found
+columnAt s at mask bit = cond (named bit mask) (numberAt s at) (found 0 at)
 
--- "values by rising bit": those of so many bits, after those seen before, and what they and the place after them go on to
+-- the columns of bits 1 to 16, and what they and the place after them go on to
 abbrev pub Follow : Type 0
-Follow = List ℕ → ℕ → Parsed
+Follow = ℕ → ℕ → ℕ → ℕ → ℕ → ℕ → Parsed
 
-unfoldable pub valuesAt : ℕ → List ℕ → ℕ → ℕ → List ℕ → Follow → Parsed
-valuesAt zero s at mask seen follow = follow seen at
-valuesAt (suc n) s at mask seen follow = field (valueAt s at mask) (λ v at. valuesAt n s at (mask / 2) (seen ++ (v ∷ [])) follow)
+unfoldable pub fiveAt : List ℕ → ℕ → ℕ → Follow → Parsed
+fiveAt s at mask follow =
+    field (columnAt s at mask 1) (λ a at. field (columnAt s at mask 2) (λ b at. field (columnAt s at mask 4) (λ c at.
+    field (columnAt s at mask 8) (λ d at. field (columnAt s at mask 16) (λ e at. follow a b c d e at)))))
 
 -- the code's answer in these terms
-abbrev pub valuesIn : Values → Follow → Parsed
-valuesIn r follow = cond (r .good) (follow (r .values) (r .next)) broken
+abbrev pub fiveIn : Five → Follow → Parsed
+fiveIn (F.Is a b c d e next) follow = follow a b c d e next
+fiveIn F.Bad follow = broken
 
 -- 1 "reading (sensor, value)"
 unfoldable pub readingAt : List ℕ → ℕ → Parsed
@@ -53,26 +54,25 @@ elapseAt s at = field (numberAt s at) (λ n at. event (elapse n) at)
 unfoldable pub resetAt : List ℕ → ℕ → Parsed
 resetAt s at = field (numberAt s at) (λ type at. event (reset type) at)
 
--- the columns of bits 1 to 64
-abbrev pub sensorColumns : ℕ → List ℕ → SensorColumns
-sensorColumns mask v = record {
-  mask = mask;
-  enabled = getD v 0 0;
-  «on_threshold» = getD v 1 0;
-  «on_fraction» = getD v 2 0;
-  «on_timeout» = getD v 3 0;
-  «off_threshold» = getD v 4 0;
-  «off_fraction» = getD v 5 0;
-  «off_timeout» = getD v 6 0;
-}
-
 -- 4 "sensor Set (sensor, mask, values by rising bit)"; an unknown mask bit is bad
 unfoldable pub sensorSetAt : List ℕ → ℕ → Parsed
 sensorSetAt s at =
     field (numberAt s at) (λ sensor at.
     field (numberAt s at) (λ mask at.
     cond (leb mask 127)
-    (valuesAt 7 s at mask [] (λ v at. event (sensorSet sensor (sensorColumns mask v)) at))
+    (fiveAt s at mask (λ enabled on-threshold on-fraction on-timeout off-threshold at.
+    field (columnAt s at mask 32) (λ off-fraction at.
+    field (columnAt s at mask 64) (λ off-timeout at.
+    event (sensorSet sensor (record {
+      mask = mask;
+      enabled = enabled;
+      «on_threshold» = on-threshold;
+      «on_fraction» = on-fraction;
+      «on_timeout» = on-timeout;
+      «off_threshold» = off-threshold;
+      «off_fraction» = off-fraction;
+      «off_timeout» = off-timeout;
+    })) at))))
     broken))
 
 -- "the expression as byte length up to 1,024 and then its bytes": where they start, how many they are, and the place after them
@@ -99,26 +99,22 @@ abbrev pub fieldTokens : List ℕ → Stretch → (List ℕ → ℕ → Parsed) 
 fieldTokens s (stretch start count next) follow = follow (tokensAt s start count) next
 fieldTokens s cut follow = broken
 
--- the columns of bits 1 to 16; bit 32 is the expression, which stands after their values
-abbrev pub bandColumns : ℕ → List ℕ → BandColumns
-bandColumns mask v = record {
-  mask = mask;
-  «read_lock_enabled» = getD v 0 0;
-  «write_lock_enabled» = getD v 1 0;
-  «read_locked» = getD v 2 0;
-  «write_locked» = getD v 3 0;
-  «lock_on_reset» = getD v 4 0;
-}
-
 -- 5 "band Set (band, mask, values likewise, the expression as byte length up to 1,024 and then its bytes)"
 unfoldable pub bandSetAt : List ℕ → ℕ → Parsed
 bandSetAt s at =
     field (numberAt s at) (λ band at.
     field (numberAt s at) (λ mask at.
     cond (leb mask 63)
-    (valuesAt 7 s at (mask % 32) [] (λ v at.
+    (fiveAt s at mask (λ read-lock-enabled write-lock-enabled read-locked write-locked lock-on-reset at.
     fieldTokens s (expressionAt s at mask) (λ tokens at.
-    event (bandSet band (bandColumns mask v) tokens) at)))
+    event (bandSet band (record {
+      mask = mask;
+      «read_lock_enabled» = read-lock-enabled;
+      «write_lock_enabled» = write-lock-enabled;
+      «read_locked» = read-locked;
+      «write_locked» = write-locked;
+      «lock_on_reset» = lock-on-reset;
+    }) tokens) at)))
     broken))
 
 -- 6 "geometry (band, start, length)"

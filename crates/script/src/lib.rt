@@ -2,24 +2,21 @@
 ghost use mathlib.Core.Path.{_≡_};
 ghost use Prim.Native.Nat.{_<_};
 ghost use mathlib.Core.Bool.{cond};
-ghost use mathlib.Core.List.{[]};
 ghost use lib.Dec.{eqb};
 ghost use lib.ListN.{length};
 ghost use Rattle.numbers.specs.Groups.{foundIn};
 ghost use Rattle.script.specs.Fields.{
-  valueAt,
+  columnAt,
   Follow,
-  valuesIn,
-  valuesAt,
+  fiveIn,
+  fiveAt,
   partIn,
   expressionAt,
   parsedIn,
   readingAt,
   elapseAt,
   resetAt,
-  sensorColumns,
   sensorSetAt,
-  bandColumns,
   bandSetAt,
   geometryAt,
   transferAt,
@@ -44,11 +41,10 @@ pub enum Part {
     Bad,
 }
 
-// Whether the values of a Set read, these values by rising bit, and the place after them.
-pub struct Values {
-    good: bool,
-    values: [u64; 7],
-    next: usize,
+// The columns of bits 1 to 16, by rising bit, and the place after them.
+pub enum Five {
+    Is(u64, u64, u64, u64, u64, usize),
+    Bad,
 }
 
 // A header in range, and the place after it.
@@ -68,11 +64,12 @@ pub const MOST_BYTES: usize = 65_536;
 
 pub const MOST_TOKENS: u64 = 1_024;
 
-// The value of the mask's lowest bit, where the mask has it; else 0, which takes no bytes.
-fn value_at(script: &[u8], at: usize, mask: u64) -> Number
-    ensures { λ r. ⌜ foundIn r ≡ valueAt (now (script .entry)) at mask ⌝ }
+// The column of a bit, where the mask names it; else 0, which takes no bytes.
+fn column_at(script: &[u8], at: usize, mask: u64, bit: u64) -> Number
+    requires { ⌜ 0 < bit ⌝ }
+    ensures { λ r. ⌜ foundIn r ≡ columnAt (now (script .entry)) at mask bit ⌝ }
 {
-    if mask % 2 == 1 {
+    if mask / bit % 2 == 1 {
         return numbers::number_at(script, at);
     }
     Number::Is(0, at)
@@ -108,48 +105,26 @@ fn reset_at(script: &[u8], at: usize) -> EventRead
     EventRead::Is(Kind::Reset(kind), 0, 0, at1)
 }
 
-// The values of the seven lowest bits of a mask, by rising bit.
-fn values_at(script: &[u8], start: usize, mask: u64) -> Values
-    ensures { λ r. ⌜ ((follow : Follow) → valuesIn r follow ≡ valuesAt 7 (now (script .entry)) start mask [] follow) ⌝ }
+// The columns of bits 1 to 16, with which the values of either Set begin.
+fn five_at(script: &[u8], at: usize, mask: u64) -> Five
+    ensures { λ r. ⌜ ((follow : Follow) → fiveIn r follow ≡ fiveAt (now (script .entry)) at mask follow) ⌝ }
 {
-    let mut values: [u64; 7] = [0; 7];
-    let mut at = start;
-    let mut left = mask;
-    let mut i: usize = 0;
-    while i < 7 {
-        let Number::Is(value, next) = value_at(script, at, left) else {
-            return Values {
-                good: false,
-                values,
-                next: at,
-            };
-        };
-        values[i] = value;
-        at = next;
-        left = left / 2;
-        i += 1;
-    }
-    Values {
-        good: true,
-        values,
-        next: at,
-    }
-}
-
-// The columns of bits 1 to 64.
-fn sensor_columns(mask: u64, values: [u64; 7]) -> SensorColumns
-    ensures { λ r. ⌜ r ≡ sensorColumns mask values ⌝ }
-{
-    SensorColumns {
-        mask,
-        enabled: values[0],
-        on_threshold: values[1],
-        on_fraction: values[2],
-        on_timeout: values[3],
-        off_threshold: values[4],
-        off_fraction: values[5],
-        off_timeout: values[6],
-    }
+    let Number::Is(first, at1) = column_at(script, at, mask, 1) else {
+        return Five::Bad;
+    };
+    let Number::Is(second, at2) = column_at(script, at1, mask, 2) else {
+        return Five::Bad;
+    };
+    let Number::Is(third, at3) = column_at(script, at2, mask, 4) else {
+        return Five::Bad;
+    };
+    let Number::Is(fourth, at4) = column_at(script, at3, mask, 8) else {
+        return Five::Bad;
+    };
+    let Number::Is(fifth, at5) = column_at(script, at4, mask, 16) else {
+        return Five::Bad;
+    };
+    Five::Is(first, second, third, fourth, fifth, at5)
 }
 
 fn sensor_set_at(script: &[u8], at: usize) -> EventRead
@@ -164,13 +139,26 @@ fn sensor_set_at(script: &[u8], at: usize) -> EventRead
     if 127 < mask {
         return EventRead::Bad;
     }
-    let read = values_at(script, at2, mask);
-    if !read.good {
+    let Five::Is(first, second, third, fourth, fifth, at3) = five_at(script, at2, mask) else {
         return EventRead::Bad;
-    }
-    let values = read.values;
-    let columns = sensor_columns(mask, values);
-    EventRead::Is(Kind::SensorSet(sensor, columns), 0, 0, read.next)
+    };
+    let Number::Is(off_fraction, at4) = column_at(script, at3, mask, 32) else {
+        return EventRead::Bad;
+    };
+    let Number::Is(off_timeout, at5) = column_at(script, at4, mask, 64) else {
+        return EventRead::Bad;
+    };
+    let columns = SensorColumns {
+        mask,
+        enabled: first,
+        on_threshold: second,
+        on_fraction: third,
+        on_timeout: fourth,
+        off_threshold: fifth,
+        off_fraction,
+        off_timeout,
+    };
+    EventRead::Is(Kind::SensorSet(sensor, columns), 0, 0, at5)
 }
 
 // Where an expression's bytes stand, where the mask names it; else no bytes.
@@ -196,20 +184,6 @@ fn expression_at(script: &[u8], at: usize, mask: u64) -> Part
     Part::Is(0, 0, at)
 }
 
-// The columns of bits 1 to 16; bit 32 is the expression.
-fn band_columns(mask: u64, values: [u64; 7]) -> BandColumns
-    ensures { λ r. ⌜ r ≡ bandColumns mask values ⌝ }
-{
-    BandColumns {
-        mask,
-        read_lock_enabled: values[0],
-        write_lock_enabled: values[1],
-        read_locked: values[2],
-        write_locked: values[3],
-        lock_on_reset: values[4],
-    }
-}
-
 fn band_set_at(script: &[u8], at: usize) -> EventRead
     ensures { λ r. ⌜ parsedIn (now (script .entry)) r ≡ bandSetAt (now (script .entry)) at ⌝ }
 {
@@ -222,15 +196,20 @@ fn band_set_at(script: &[u8], at: usize) -> EventRead
     if 63 < mask {
         return EventRead::Bad;
     }
-    let read = values_at(script, at2, mask % 32);
-    if !read.good {
-        return EventRead::Bad;
-    }
-    let Part::Is(start, count, at4) = expression_at(script, read.next, mask) else {
+    let Five::Is(first, second, third, fourth, fifth, at3) = five_at(script, at2, mask) else {
         return EventRead::Bad;
     };
-    let values = read.values;
-    let columns = band_columns(mask, values);
+    let Part::Is(start, count, at4) = expression_at(script, at3, mask) else {
+        return EventRead::Bad;
+    };
+    let columns = BandColumns {
+        mask,
+        read_lock_enabled: first,
+        write_lock_enabled: second,
+        read_locked: third,
+        write_locked: fourth,
+        lock_on_reset: fifth,
+    };
     EventRead::Is(Kind::BandSet(band, columns), start, count, at4)
 }
 

@@ -1,6 +1,5 @@
 use Rattle.script.specs.Fields.{bandSetAt}
-use Rattle.script.proofs.Chains.{fields, band-read}
-use borrow.Author.Tests.{not-false}
+use Rattle.script.proofs.Chains.{fields}
 use borrow.Author.Needs.{needs}
 use Rattle.script.proofs.band_set_at.Statement.{statement}
 use Rattle.script.proofs.band_set_at.Tie as tie
@@ -35,8 +34,14 @@ returns-3 : tie.Need-returns-3
 unfolding bandSetAt
 returns-3 c = search fields depth 9 fits 4000
 
-values-at-requires : tie.Need-values-at-requires
-values-at-requires c κs = search needs
+five-at-requires : tie.Need-five-at-requires
+five-at-requires c κs = search needs
+
+enum-known-first : tie.Need-enum-known-first
+enum-known-first c = search needs
+
+enum-told-3 : tie.Need-enum-told-3
+enum-told-3 c = search needs
 
 returns-4 : tie.Need-returns-4
 unfolding bandSetAt
@@ -48,18 +53,16 @@ expression-at-requires c κs = search needs
 enum-known-start : tie.Need-enum-known-start
 enum-known-start c = search needs
 
-enum-told-3 : tie.Need-enum-told-3
-enum-told-3 c = search needs
+enum-told-4 : tie.Need-enum-told-4
+enum-told-4 c = search needs
 
 returns-5 : tie.Need-returns-5
 unfolding bandSetAt
 returns-5 c = search fields depth 9 fits 4000
 
-band-columns-requires : tie.Need-band-columns-requires
-band-columns-requires c κs = search needs
-
 returns-6 : tie.Need-returns-6
-returns-6 c = search (band-read, not-false)
+unfolding bandSetAt
+returns-6 c = search fields depth 9 fits 4000
 
 pub band-set-at-spec : {M : Type 1} → statement M
 band-set-at-spec =
@@ -74,11 +77,12 @@ band-set-at-spec =
     enum-told-2
     returns-2
     returns-3
-    values-at-requires
+    five-at-requires
+    enum-known-first
+    enum-told-3
     returns-4
     expression-at-requires
     enum-known-start
-    enum-told-3
+    enum-told-4
     returns-5
-    band-columns-requires
     returns-6)

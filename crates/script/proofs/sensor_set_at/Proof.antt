@@ -34,19 +34,48 @@ returns-3 : tie.Need-returns-3
 unfolding sensorSetAt
 returns-3 c = search fields depth 9 fits 4000
 
-values-at-requires : tie.Need-values-at-requires
-values-at-requires c κs = search needs
+five-at-requires : tie.Need-five-at-requires
+five-at-requires c κs = search needs
+
+enum-known-first : tie.Need-enum-known-first
+enum-known-first c = search needs
+
+enum-told-3 : tie.Need-enum-told-3
+enum-told-3 c = search needs
 
 returns-4 : tie.Need-returns-4
 unfolding sensorSetAt
 returns-4 c = search fields depth 9 fits 4000
 
-sensor-columns-requires : tie.Need-sensor-columns-requires
-sensor-columns-requires c κs = search needs
+column-at-requires : tie.Need-column-at-requires
+column-at-requires c κs = search needs
+
+enum-known-off-fraction : tie.Need-enum-known-off-fraction
+enum-known-off-fraction c = search needs
+
+enum-told-4 : tie.Need-enum-told-4
+enum-told-4 c = search needs
 
 returns-5 : tie.Need-returns-5
 unfolding sensorSetAt
 returns-5 c = search fields depth 9 fits 4000
+
+column-at-requires-2 : tie.Need-column-at-requires-2
+column-at-requires-2 c κs = search needs
+
+enum-known-off-timeout : tie.Need-enum-known-off-timeout
+enum-known-off-timeout c = search needs
+
+enum-told-5 : tie.Need-enum-told-5
+enum-told-5 c = search needs
+
+returns-6 : tie.Need-returns-6
+unfolding sensorSetAt
+returns-6 c = search fields depth 9 fits 4000
+
+returns-7 : tie.Need-returns-7
+unfolding sensorSetAt
+returns-7 c = search fields depth 9 fits 4000
 
 pub sensor-set-at-spec : {M : Type 1} → statement M
 sensor-set-at-spec =
@@ -61,7 +90,16 @@ sensor-set-at-spec =
     enum-told-2
     returns-2
     returns-3
-    values-at-requires
+    five-at-requires
+    enum-known-first
+    enum-told-3
     returns-4
-    sensor-columns-requires
-    returns-5)
+    column-at-requires
+    enum-known-off-fraction
+    enum-told-4
+    returns-5
+    column-at-requires-2
+    enum-known-off-timeout
+    enum-told-5
+    returns-6
+    returns-7)

@@ -1,0 +1,19 @@
+use Rattle.script.proofs.Chains.{column-named, column-free}
+use borrow.Author.Needs.{needs}
+use Rattle.script.proofs.column_at.Statement.{statement}
+use Rattle.script.proofs.column_at.Tie as tie
+
+div-if1 : tie.Need-div-if1
+div-if1 c = search needs
+
+number-at-requires : tie.Need-number-at-requires
+number-at-requires c κs = search needs
+
+returns : tie.Need-returns
+returns c = search column-named
+
+returns-2 : tie.Need-returns-2
+returns-2 c = search column-free
+
+pub column-at-spec : {M : Type 1} → statement M
+column-at-spec = tie.close (tie.spec div-if1 number-at-requires returns returns-2)
