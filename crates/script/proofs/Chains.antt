@@ -1,20 +1,23 @@
 -- Fields one after the other: what a call found, and what is read on from there. `search fields` goes along a chain of them.
 use mathlib.Core.Path.{_≡_, refl, sym, ap, _∙_}
 use Prim.Native.Nat.{ℕ, _+_, _-_, _/_, _%_, _≤_, _<_}
-use mathlib.Core.Bool.{Bool, true, false, cond}
 use native.Mathlib.Omega.{arith}
+use mathlib.Core.Bool.{Bool, true, false, cond}
 use mathlib.Core.List.{List}
 use lib.Dec.{eqb, leb}
 use lib.ListN.{length}
-use borrow.Author.Tests.{le-leb, lt-leb, eq-eqb, ne-eqb}
+use borrow.Author.Tests.{le-leb, lt-leb, eq-eqb, ne-eqb, eqb-true, eqb-false, leb-true}
 use Rattle.base.specs.Columns.{named}
 use Rattle.base.proofs.Cases.{cond-true, cond-false}
 use Rattle.numbers.specs.declared.Number.{Number}
 use Rattle.numbers.specs.declared.Number.the-variants.{Is, Bad}
 use Rattle.numbers.specs.Groups.{Found, found, foundIn, numberAt}
+use Rattle.drive.specs.Events.{geometry, transfer}
+use Rattle.script.specs.declared.Five.{Five}
+use Rattle.script.specs.declared.Five.the-variants as F
 use Rattle.script.specs.declared.Part.{Part}
 use Rattle.script.specs.declared.Part.the-variants as P
-use Rattle.script.specs.Fields.{Parsed, broken, field, Stretch, stretch, cut, partIn, fieldTokens, tokensAt, columnAt, stretchAt, expressionAt, ofKind, eventAt}
+use Rattle.script.specs.Fields.{Parsed, event, broken, field, Follow, fiveIn, fiveAt, Stretch, stretch, cut, partIn, fieldTokens, tokensAt, columnAt, stretchAt, expressionAt, geometryAt, transferAt, ofKind, eventAt}
 
 -- a number that does not read, and one that does
 pub read-bad : (r : Number) (f : Found) (k : ℕ → ℕ → Parsed) → foundIn r ≡ f → r ≡ Bad → broken ≡ field f k
@@ -22,6 +25,15 @@ read-bad r f k e q = sym (ap (λ (x : Found). field x k) (sym e ∙ ap foundIn q
 
 pub read-is : (r : Number) (f : Found) (k : ℕ → ℕ → Parsed) (v n : ℕ) (p : Parsed) → foundIn r ≡ f → r ≡ Is v n → p ≡ k v n → p ≡ field f k
 read-is r f k v n p e q w = w ∙ sym (ap (λ (x : Found). field x k) (sym e ∙ ap foundIn q))
+
+-- the columns of bits 1 to 16
+pub five-bad : (s : List ℕ) (at mask : ℕ) (r : Five) (k : Follow) → ((follow : Follow) → fiveIn r follow ≡ fiveAt s at mask follow) → r ≡ F.Bad
+    → broken ≡ fiveAt s at mask k
+five-bad s at mask r k e q = sym (ap (λ (x : Five). fiveIn x k) q) ∙ e k
+
+pub five-is : (s : List ℕ) (at mask : ℕ) (r : Five) (k : Follow) (a b c d e n : ℕ) (p : Parsed)
+    → ((follow : Follow) → fiveIn r follow ≡ fiveAt s at mask follow) → r ≡ F.Is a b c d e n → p ≡ k a b c d e n → p ≡ fiveAt s at mask k
+five-is s at mask r k a b c d e n p h q w = w ∙ sym (ap (λ (x : Five). fiveIn x k) q) ∙ h k
 
 -- an expression's bytes
 pub tokens-bad : (s : List ℕ) (r : Part) (f : Stretch) (k : List ℕ → ℕ → Parsed) → partIn r ≡ f → r ≡ P.Bad → broken ≡ fieldTokens s f k
@@ -32,13 +44,13 @@ pub tokens-is : (s : List ℕ) (r : Part) (f : Stretch) (k : List ℕ → ℕ �
 tokens-is s r f k start count n p e q w = w ∙ sym (ap (λ (x : Stretch). fieldTokens s x k) (sym e ∙ ap partIn q))
 
 -- a mask with an unknown bit, and one without
-pub mask-unknown : (mask most : ℕ) (x : Parsed) → most < mask → broken ≡ cond (leb mask most) x broken
-mask-unknown mask most x h = sym (ap (λ (b : Bool). cond b x broken) (lt-leb mask most h))
+pub mask-unknown : (mask most limit : ℕ) (x : Parsed) → limit < mask → leb most limit ≡ true → broken ≡ cond (leb mask most) x broken
+mask-unknown mask most limit x h k = sym (ap (λ (b : Bool). cond b x broken) (lt-leb mask most (omega (arith, h, leb-true most limit k))))
 
 pub mask-known : (mask most : ℕ) (x p : Parsed) → mask ≤ most → p ≡ x → p ≡ cond (leb mask most) x broken
 mask-known mask most x p h w = w ∙ sym (ap (λ (b : Bool). cond b x broken) (le-leb mask most h))
 
-pub ruleset fields = (read-bad, read-is, tokens-bad, tokens-is, mask-unknown, mask-known)
+pub ruleset fields = (read-bad, read-is, five-bad, five-is, tokens-bad, tokens-is, mask-unknown, mask-known)
 
 -- ---- a column, an expression's bytes and their part of the script
 
@@ -51,10 +63,6 @@ column-free s at mask bit n = cond-false (named bit mask) _ _ _ (ne-eqb (mask / 
 pub no-expression : (s : List ℕ) (at mask : ℕ) → (mask / 32 % 2 ≡ 1 → ⊥) → stretch 0 0 at ≡ expressionAt s at mask
 no-expression s at mask n = cond-false (named 32 mask) _ _ _ (ne-eqb (mask / 32 % 2) 1 n) refl
 
-cut-anyway : (b : Bool) (x : Stretch) → cut ≡ x → cut ≡ cond b x cut
-cut-anyway true x e = e
-cut-anyway false x e = refl
-
 module _ (s : List ℕ) (at mask : ℕ) (r : Number) (h : mask / 32 % 2 ≡ 1) (e : foundIn r ≡ numberAt s at) where
   there : stretchAt s (foundIn r) ≡ expressionAt s at mask
   there = cond-true (named 32 mask) _ _ _ (eq-eqb (mask / 32 % 2) 1 h) (ap (stretchAt s) e)
@@ -66,16 +74,16 @@ module _ (s : List ℕ) (at mask : ℕ) (r : Number) (h : mask / 32 % 2 ≡ 1) (
     at-size : stretchAt s (found size n) ≡ expressionAt s at mask
     at-size = sym (ap (λ (x : Number). stretchAt s (foundIn x)) q) ∙ there
 
-    pub expression-long : (limit : ℕ) → limit < size → 1024 ≤ limit → cut ≡ expressionAt s at mask
-    expression-long limit l k = cond-false (leb size 1024) _ _ _ (lt-leb size 1024 (omega arith)) refl ∙ at-size
+    pub expression-long : 1024 < size → cut ≡ expressionAt s at mask
+    expression-long k = cond-false (leb size 1024) _ _ _ (lt-leb size 1024 k) refl ∙ at-size
 
-    -- cut after the length, whether it is in range or not
-    pub expression-past : length s < n → cut ≡ expressionAt s at mask
-    expression-past l = cut-anyway (leb size 1024) _ (cond-false (leb n (length s)) _ _ _ (lt-leb n (length s) l) refl) ∙ at-size
+    pub expression-past : size ≤ 1024 → length s < n → cut ≡ expressionAt s at mask
+    expression-past k l =
+        cond-true (leb size 1024) _ _ _ (le-leb size 1024 k) (cond-false (leb n (length s)) _ _ _ (lt-leb n (length s) l) refl) ∙ at-size
 
-    pub expression-cut : n ≤ length s → length s - n < size → cut ≡ expressionAt s at mask
-    expression-cut l m =
-        cut-anyway (leb size 1024) _
+    pub expression-cut : size ≤ 1024 → n ≤ length s → length s - n < size → cut ≡ expressionAt s at mask
+    expression-cut k l m =
+        cond-true (leb size 1024) _ _ _ (le-leb size 1024 k)
         (cond-true (leb n (length s)) _ _ _ (le-leb n (length s) l) (cond-false (leb size (length s - n)) _ _ _ (lt-leb size (length s - n) m) refl))
         ∙ at-size
 
@@ -84,6 +92,24 @@ module _ (s : List ℕ) (at mask : ℕ) (r : Number) (h : mask / 32 % 2 ≡ 1) (
         cond-true (leb size 1024) _ _ _ (le-leb size 1024 k)
         (cond-true (leb n (length s)) _ _ _ (le-leb n (length s) l) (cond-true (leb size (length s - n)) _ _ _ (le-leb size (length s - n) m) refl))
         ∙ at-size
+
+-- ---- three numbers, and what they and the place after them go on to
+
+abbrev pub threeAt : List ℕ → ℕ → (ℕ → ℕ → ℕ → ℕ → Parsed) → Parsed
+threeAt s at follow =
+    field (numberAt s at) (λ a at. field (numberAt s at) (λ b at. field (numberAt s at) (λ c at. follow a b c at)))
+
+-- the test of the kind may come after them
+pub either : (s : List ℕ) (at kind : ℕ) (p : Parsed)
+    → p ≡ threeAt s at (λ a b c n. cond (eqb kind 6) (event (geometry a b c) n) (event (transfer a b c) n))
+    → p ≡ cond (eqb kind 6) (geometryAt s at) (transferAt s at)
+unfolding geometryAt transferAt
+either s at kind p w = go (eqb kind 6) w
+  where
+    go : (t : Bool) → p ≡ threeAt s at (λ a b c n. cond t (event (geometry a b c) n) (event (transfer a b c) n))
+        → p ≡ cond t (geometryAt s at) (transferAt s at)
+    go true w = w
+    go false w = w
 
 -- ---- the kind
 
@@ -100,6 +126,21 @@ pub kind-known : (s : List ℕ) (at : ℕ) (r : Number) (kind n m : ℕ) (p : Pa
     → p ≡ eventAt s at
 kind-known s at r kind n m p e q k w = w ∙ ap (λ (x : ℕ). ofKind x s n) (sym k) ∙ kind-is s at r kind n e q
 
+-- a geometry or a transfer
+span : (s : List ℕ) (n kind : ℕ) → 6 ≤ kind → kind < 8 → cond (eqb kind 6) (geometryAt s n) (transferAt s n) ≡ ofKind kind s n
+span s n kind l h = go (eqb kind 6) refl
+  where
+    go : (t : Bool) → eqb kind 6 ≡ t → cond (eqb kind 6) (geometryAt s n) (transferAt s n) ≡ ofKind kind s n
+    go true y = let k : kind ≡ 6 = eqb-true kind 6 y in rw k
+    go false y = let f = eqb-false kind 6 y in let k : kind ≡ 7 = omega (arith, f) in rw k
+
+after-five : (kind : ℕ) → (kind ≡ 1 → ⊥) → (kind ≡ 2 → ⊥) → (kind ≡ 3 → ⊥) → (kind ≡ 4 → ⊥) → (kind ≡ 5 → ⊥) → 1 ≤ kind → 6 ≤ kind
+after-five kind a b c d e l = omega arith
+
+pub kind-span : (s : List ℕ) (at : ℕ) (r : Number) (kind n : ℕ) (p : Parsed) → foundIn r ≡ numberAt s at → r ≡ Is kind n → (kind ≡ 1 → ⊥) → (kind ≡ 2 → ⊥)
+    → (kind ≡ 3 → ⊥) → (kind ≡ 4 → ⊥) → (kind ≡ 5 → ⊥) → 1 ≤ kind → kind < 8 → p ≡ cond (eqb kind 6) (geometryAt s n) (transferAt s n) → p ≡ eventAt s at
+kind-span s at r kind n p x q a b c d e l h w = w ∙ span s n kind (after-five kind a b c d e l) h ∙ kind-is s at r kind n x q
+
 unknown : (s : List ℕ) (n kind : ℕ) → (kind ≡ 1 → ⊥) → (kind ≡ 2 → ⊥) → (kind ≡ 3 → ⊥) → (kind ≡ 4 → ⊥) → (kind ≡ 5 → ⊥) → (kind ≡ 6 → ⊥)
     → (kind ≡ 7 → ⊥) → broken ≡ ofKind kind s n
 unknown s n kind a b c d e f g =
@@ -111,6 +152,13 @@ unknown s n kind a b c d e f g =
     (cond-false (eqb kind 6) _ _ _ (ne-eqb kind 6 f)
     (cond-false (eqb kind 7) _ _ _ (ne-eqb kind 7 g) refl))))))
 
-pub kind-unknown : (s : List ℕ) (at : ℕ) (r : Number) (kind n : ℕ) → foundIn r ≡ numberAt s at → r ≡ Is kind n → (kind ≡ 1 → ⊥) → (kind ≡ 2 → ⊥)
-    → (kind ≡ 3 → ⊥) → (kind ≡ 4 → ⊥) → (kind ≡ 5 → ⊥) → (kind ≡ 6 → ⊥) → (kind ≡ 7 → ⊥) → broken ≡ eventAt s at
-kind-unknown s at r kind n x q a b c d e f g = unknown s n kind a b c d e f g ∙ kind-is s at r kind n x q
+pub kind-zero : (s : List ℕ) (at : ℕ) (r : Number) (kind n : ℕ) → foundIn r ≡ numberAt s at → r ≡ Is kind n → kind < 1 → broken ≡ eventAt s at
+kind-zero s at r kind n x q h = let k : kind ≡ 0 = omega (arith, h) in kind-known s at r kind n 0 broken x q k refl
+
+pub kind-large : (s : List ℕ) (at : ℕ) (r : Number) (kind n : ℕ) → foundIn r ≡ numberAt s at → r ≡ Is kind n → 8 ≤ kind → broken ≡ eventAt s at
+kind-large s at r kind n x q h =
+    unknown s n kind (past 1 (omega arith)) (past 2 (omega arith)) (past 3 (omega arith)) (past 4 (omega arith)) (past 5 (omega arith)) (past 6 (omega arith)) (past 7 (omega arith))
+    ∙ kind-is s at r kind n x q
+  where
+    past : (m : ℕ) → m < 8 → kind ≡ m → ⊥
+    past m l e = omega (arith, e, h, l)

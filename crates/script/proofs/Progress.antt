@@ -9,13 +9,15 @@ use lib.ListN.{length, drop, drop-of-length-le, length-drop}
 use borrow.Author.Tests.{ltb-true, ltb-false, leb-true}
 use Rattle.base.specs.Columns.{named}
 use Rattle.numbers.specs.Groups.{Found, found, none, prefixed, numberFrom, numberAt}
-use Rattle.drive.specs.Events.{Event}
+use Rattle.drive.specs.Events.{Event, geometry, transfer}
 use Rattle.script.specs.Fields.{
   Parsed,
   event,
   broken,
   field,
   columnAt,
+  Follow,
+  fiveAt,
   Stretch,
   stretch,
   cut,
@@ -33,6 +35,7 @@ use Rattle.script.specs.Fields.{
   ofKind,
   eventAt,
 }
+use Rattle.script.proofs.Chains.{threeAt}
 
 -- what was found ends between two places
 
@@ -153,29 +156,41 @@ from-reset : (s : List ℕ) (at : ℕ) → EventIn (at + 1) (length s) (resetAt 
 unfolding resetAt
 from-reset s at = on-first s at _ (λ v n h. last n (length s) h)
 
-from-three : (s : List ℕ) (at : ℕ) → EventIn (at + 1) (length s) (geometryAt s at)
+from-three : (s : List ℕ) (at : ℕ) (e : ℕ → ℕ → ℕ → Event) → EventIn (at + 1) (length s) (threeAt s at (λ a b c n. event (e a b c) n))
+from-three s at e = on-first s at _ (λ v n h. on-number s n _ (λ w m k. on-number s m _ (λ x l j. last l (length s) j)))
+
+from-geometry : (s : List ℕ) (at : ℕ) → EventIn (at + 1) (length s) (geometryAt s at)
 unfolding geometryAt
-from-three s at = on-first s at _ (λ v n h. on-number s n _ (λ w m k. on-number s m _ (λ x l j. last l (length s) j)))
+from-geometry s at = from-three s at geometry
 
 from-transfer : (s : List ℕ) (at : ℕ) → EventIn (at + 1) (length s) (transferAt s at)
 unfolding transferAt
-from-transfer s at = on-first s at _ (λ v n h. on-number s n _ (λ w m k. on-number s m _ (λ x l j. last l (length s) j)))
+from-transfer s at = from-three s at transfer
+
+on-five : (s : List ℕ) (at mask : ℕ) → at ≤ length s → (k : Follow) → ((a b c d e n : ℕ) → n ≤ length s → EventIn n (length s) (k a b c d e n))
+    → EventIn at (length s) (fiveAt s at mask k)
+unfolding fiveAt
+on-five s at mask h k g =
+    on-column s at mask 1 h _ (λ a b hb. on-column s b mask 2 hb _ (λ c d hd. on-column s d mask 4 hd _ (λ e f hf. on-column s f mask 8 hf _ (λ i j hj.
+    on-column s j mask 16 hj _ (λ l n hn. g a c e i l n hn)))))
+
+-- a row and its mask, and what follows where no bit of the mask is unknown
+on-set : (s : List ℕ) (at most : ℕ) (k : ℕ → ℕ → ℕ → Parsed) → ((row mask n : ℕ) → n ≤ length s → EventIn n (length s) (k row mask n))
+    → EventIn (at + 1) (length s) (field (numberAt s at) (λ row at. field (numberAt s at) (λ mask at. cond (leb mask most) (k row mask at) broken)))
+on-set s at most k c =
+    on-first s at _ (λ row a ha. on-number s a _ (λ mask b hb. event-either b (length s) (leb mask most) (k row mask b) broken (c row mask b hb) tt))
 
 from-sensor-set : (s : List ℕ) (at : ℕ) → EventIn (at + 1) (length s) (sensorSetAt s at)
 unfolding sensorSetAt
 from-sensor-set s at =
-    on-first s at _ (λ v a ha. on-number s a _ (λ m b hb. event-either b (length s) (leb m 127) _ broken
-    (on-column s b m 1 hb _ (λ _ c hc. on-column s c m 2 hc _ (λ _ d hd. on-column s d m 4 hd _ (λ _ e he. on-column s e m 8 he _ (λ _ f hf.
-    on-column s f m 16 hf _ (λ _ g hg. on-column s g m 32 hg _ (λ _ h hh. on-column s h m 64 hh _ (λ _ i hi. last i (length s) hi))))))))
-    tt))
+    on-set s at 127 _ (λ _ m b hb. on-five s b m hb _ (λ _ _ _ _ _ g hg.
+    on-column s g m 32 hg _ (λ _ h hh. on-column s h m 64 hh _ (λ _ i hi. last i (length s) hi))))
 
 from-band-set : (s : List ℕ) (at : ℕ) → EventIn (at + 1) (length s) (bandSetAt s at)
 unfolding bandSetAt
 from-band-set s at =
-    on-first s at _ (λ v a ha. on-number s a _ (λ m b hb. event-either b (length s) (leb m 63) _ broken
-    (on-column s b m 1 hb _ (λ _ c hc. on-column s c m 2 hc _ (λ _ d hd. on-column s d m 4 hd _ (λ _ e he. on-column s e m 8 he _ (λ _ f hf.
-    on-column s f m 16 hf _ (λ _ g hg. on-tokens s g (length s) (expressionAt s g m) _ (expression-at s g m hg) (λ _ h hh. last h (length s) hh)))))))
-    tt))
+    on-set s at 63 _ (λ _ m b hb. on-five s b m hb _ (λ _ _ _ _ _ g hg.
+    on-tokens s g (length s) (expressionAt s g m) _ (expression-at s g m hg) (λ _ h hh. last h (length s) hh)))
 
 of-kind : (kind : ℕ) (s : List ℕ) (at : ℕ) → EventIn (at + 1) (length s) (ofKind kind s at)
 of-kind kind s at =
@@ -184,7 +199,7 @@ of-kind kind s at =
     (event-either (at + 1) (length s) (eqb kind 3) (resetAt s at) _ (from-reset s at)
     (event-either (at + 1) (length s) (eqb kind 4) (sensorSetAt s at) _ (from-sensor-set s at)
     (event-either (at + 1) (length s) (eqb kind 5) (bandSetAt s at) _ (from-band-set s at)
-    (event-either (at + 1) (length s) (eqb kind 6) (geometryAt s at) _ (from-three s at)
+    (event-either (at + 1) (length s) (eqb kind 6) (geometryAt s at) _ (from-geometry s at)
     (event-either (at + 1) (length s) (eqb kind 7) (transferAt s at) broken (from-transfer s at) tt))))))
 
 -- the kind and a field: two bytes at least, and within the script

@@ -9,6 +9,8 @@ use Rattle.numbers.specs.Groups.{Found, found, none, numberAt}
 use Rattle.drive.specs.Events.{Event, reading, elapse, reset, sensorSet, bandSet, geometry, transfer, eventOf}
 use Rattle.script.specs.declared.EventRead.{EventRead}
 use Rattle.script.specs.declared.EventRead.the-variants as R
+use Rattle.script.specs.declared.Five.{Five}
+use Rattle.script.specs.declared.Five.the-variants as F
 use Rattle.script.specs.declared.Part.{Part}
 use Rattle.script.specs.declared.Part.the-variants as P
 
@@ -25,6 +27,20 @@ field none follow = broken
 -- "values by rising bit": the column of a bit where the mask names it, else 0, which takes no bytes
 abbrev pub columnAt : List ℕ → ℕ → ℕ → ℕ → Found
 columnAt s at mask bit = cond (named bit mask) (numberAt s at) (found 0 at)
+
+-- the columns of bits 1 to 16, and what they and the place after them go on to
+abbrev pub Follow : Type 0
+Follow = ℕ → ℕ → ℕ → ℕ → ℕ → ℕ → Parsed
+
+unfoldable pub fiveAt : List ℕ → ℕ → ℕ → Follow → Parsed
+fiveAt s at mask follow =
+    field (columnAt s at mask 1) (λ a at. field (columnAt s at mask 2) (λ b at. field (columnAt s at mask 4) (λ c at.
+    field (columnAt s at mask 8) (λ d at. field (columnAt s at mask 16) (λ e at. follow a b c d e at)))))
+
+-- the code's answer in these terms
+abbrev pub fiveIn : Five → Follow → Parsed
+fiveIn (F.Is a b c d e next) follow = follow a b c d e next
+fiveIn F.Bad follow = broken
 
 -- 1 "reading (sensor, value)"
 unfoldable pub readingAt : List ℕ → ℕ → Parsed
@@ -44,11 +60,7 @@ sensorSetAt s at =
     field (numberAt s at) (λ sensor at.
     field (numberAt s at) (λ mask at.
     cond (leb mask 127)
-    (field (columnAt s at mask 1) (λ enabled at.
-    field (columnAt s at mask 2) (λ on-threshold at.
-    field (columnAt s at mask 4) (λ on-fraction at.
-    field (columnAt s at mask 8) (λ on-timeout at.
-    field (columnAt s at mask 16) (λ off-threshold at.
+    (fiveAt s at mask (λ enabled on-threshold on-fraction on-timeout off-threshold at.
     field (columnAt s at mask 32) (λ off-fraction at.
     field (columnAt s at mask 64) (λ off-timeout at.
     event (sensorSet sensor (record {
@@ -60,7 +72,7 @@ sensorSetAt s at =
       «off_threshold» = off-threshold;
       «off_fraction» = off-fraction;
       «off_timeout» = off-timeout;
-    })) at))))))))
+    })) at))))
     broken))
 
 -- "the expression as byte length up to 1,024 and then its bytes": where they start, how many they are, and the place after them
@@ -93,11 +105,7 @@ bandSetAt s at =
     field (numberAt s at) (λ band at.
     field (numberAt s at) (λ mask at.
     cond (leb mask 63)
-    (field (columnAt s at mask 1) (λ read-lock-enabled at.
-    field (columnAt s at mask 2) (λ write-lock-enabled at.
-    field (columnAt s at mask 4) (λ read-locked at.
-    field (columnAt s at mask 8) (λ write-locked at.
-    field (columnAt s at mask 16) (λ lock-on-reset at.
+    (fiveAt s at mask (λ read-lock-enabled write-lock-enabled read-locked write-locked lock-on-reset at.
     fieldTokens s (expressionAt s at mask) (λ tokens at.
     event (bandSet band (record {
       mask = mask;
@@ -106,7 +114,7 @@ bandSetAt s at =
       «read_locked» = read-locked;
       «write_locked» = write-locked;
       «lock_on_reset» = lock-on-reset;
-    }) tokens) at)))))))
+    }) tokens) at)))
     broken))
 
 -- 6 "geometry (band, start, length)"

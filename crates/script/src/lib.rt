@@ -1,10 +1,15 @@
 // Scripts (document 01, 'Script'): the header and the events, read at their places.
 ghost use mathlib.Core.Path.{_≡_};
 ghost use Prim.Native.Nat.{_<_};
+ghost use mathlib.Core.Bool.{cond};
+ghost use lib.Dec.{eqb};
 ghost use lib.ListN.{length};
 ghost use Rattle.numbers.specs.Groups.{foundIn};
 ghost use Rattle.script.specs.Fields.{
   columnAt,
+  Follow,
+  fiveIn,
+  fiveAt,
   partIn,
   expressionAt,
   parsedIn,
@@ -33,6 +38,12 @@ pub enum EventRead {
 // An expression's bytes: where they start, how many they are, and the place after them.
 pub enum Part {
     Is(usize, usize, usize),
+    Bad,
+}
+
+// The columns of bits 1 to 16, by rising bit, and the place after them.
+pub enum Five {
+    Is(u64, u64, u64, u64, u64, usize),
     Bad,
 }
 
@@ -94,6 +105,28 @@ fn reset_at(script: &[u8], at: usize) -> EventRead
     EventRead::Is(Kind::Reset(kind), 0, 0, at1)
 }
 
+// The columns of bits 1 to 16, with which the values of either Set begin.
+fn five_at(script: &[u8], at: usize, mask: u64) -> Five
+    ensures { λ r. ⌜ ((follow : Follow) → fiveIn r follow ≡ fiveAt (now (script .entry)) at mask follow) ⌝ }
+{
+    let Number::Is(first, at1) = column_at(script, at, mask, 1) else {
+        return Five::Bad;
+    };
+    let Number::Is(second, at2) = column_at(script, at1, mask, 2) else {
+        return Five::Bad;
+    };
+    let Number::Is(third, at3) = column_at(script, at2, mask, 4) else {
+        return Five::Bad;
+    };
+    let Number::Is(fourth, at4) = column_at(script, at3, mask, 8) else {
+        return Five::Bad;
+    };
+    let Number::Is(fifth, at5) = column_at(script, at4, mask, 16) else {
+        return Five::Bad;
+    };
+    Five::Is(first, second, third, fourth, fifth, at5)
+}
+
 fn sensor_set_at(script: &[u8], at: usize) -> EventRead
     ensures { λ r. ⌜ parsedIn (now (script .entry)) r ≡ sensorSetAt (now (script .entry)) at ⌝ }
 {
@@ -106,38 +139,26 @@ fn sensor_set_at(script: &[u8], at: usize) -> EventRead
     if 127 < mask {
         return EventRead::Bad;
     }
-    let Number::Is(enabled, at3) = column_at(script, at2, mask, 1) else {
+    let Five::Is(first, second, third, fourth, fifth, at3) = five_at(script, at2, mask) else {
         return EventRead::Bad;
     };
-    let Number::Is(on_threshold, at4) = column_at(script, at3, mask, 2) else {
+    let Number::Is(off_fraction, at4) = column_at(script, at3, mask, 32) else {
         return EventRead::Bad;
     };
-    let Number::Is(on_fraction, at5) = column_at(script, at4, mask, 4) else {
-        return EventRead::Bad;
-    };
-    let Number::Is(on_timeout, at6) = column_at(script, at5, mask, 8) else {
-        return EventRead::Bad;
-    };
-    let Number::Is(off_threshold, at7) = column_at(script, at6, mask, 16) else {
-        return EventRead::Bad;
-    };
-    let Number::Is(off_fraction, at8) = column_at(script, at7, mask, 32) else {
-        return EventRead::Bad;
-    };
-    let Number::Is(off_timeout, at9) = column_at(script, at8, mask, 64) else {
+    let Number::Is(off_timeout, at5) = column_at(script, at4, mask, 64) else {
         return EventRead::Bad;
     };
     let columns = SensorColumns {
         mask,
-        enabled,
-        on_threshold,
-        on_fraction,
-        on_timeout,
-        off_threshold,
+        enabled: first,
+        on_threshold: second,
+        on_fraction: third,
+        on_timeout: fourth,
+        off_threshold: fifth,
         off_fraction,
         off_timeout,
     };
-    EventRead::Is(Kind::SensorSet(sensor, columns), 0, 0, at9)
+    EventRead::Is(Kind::SensorSet(sensor, columns), 0, 0, at5)
 }
 
 // Where an expression's bytes stand, where the mask names it; else no bytes.
@@ -175,63 +196,40 @@ fn band_set_at(script: &[u8], at: usize) -> EventRead
     if 63 < mask {
         return EventRead::Bad;
     }
-    let Number::Is(read_lock_enabled, at3) = column_at(script, at2, mask, 1) else {
+    let Five::Is(first, second, third, fourth, fifth, at3) = five_at(script, at2, mask) else {
         return EventRead::Bad;
     };
-    let Number::Is(write_lock_enabled, at4) = column_at(script, at3, mask, 2) else {
-        return EventRead::Bad;
-    };
-    let Number::Is(read_locked, at5) = column_at(script, at4, mask, 4) else {
-        return EventRead::Bad;
-    };
-    let Number::Is(write_locked, at6) = column_at(script, at5, mask, 8) else {
-        return EventRead::Bad;
-    };
-    let Number::Is(lock_on_reset, at7) = column_at(script, at6, mask, 16) else {
-        return EventRead::Bad;
-    };
-    let Part::Is(start, count, at8) = expression_at(script, at7, mask) else {
+    let Part::Is(start, count, at4) = expression_at(script, at3, mask) else {
         return EventRead::Bad;
     };
     let columns = BandColumns {
         mask,
-        read_lock_enabled,
-        write_lock_enabled,
-        read_locked,
-        write_locked,
-        lock_on_reset,
+        read_lock_enabled: first,
+        write_lock_enabled: second,
+        read_locked: third,
+        write_locked: fourth,
+        lock_on_reset: fifth,
     };
-    EventRead::Is(Kind::BandSet(band, columns), start, count, at8)
+    EventRead::Is(Kind::BandSet(band, columns), start, count, at4)
 }
 
-fn geometry_at(script: &[u8], at: usize) -> EventRead
-    ensures { λ r. ⌜ parsedIn (now (script .entry)) r ≡ geometryAt (now (script .entry)) at ⌝ }
+// A geometry where the kind is 6, else a transfer: three numbers either way.
+fn three_at(script: &[u8], at: usize, kind: u64) -> EventRead
+    ensures { λ r. ⌜ parsedIn (now (script .entry)) r ≡ cond (eqb kind 6) (geometryAt (now (script .entry)) at) (transferAt (now (script .entry)) at) ⌝ }
 {
-    let Number::Is(band, at1) = numbers::number_at(script, at) else {
+    let Number::Is(first, at1) = numbers::number_at(script, at) else {
         return EventRead::Bad;
     };
-    let Number::Is(start, at2) = numbers::number_at(script, at1) else {
+    let Number::Is(second, at2) = numbers::number_at(script, at1) else {
         return EventRead::Bad;
     };
-    let Number::Is(length, at3) = numbers::number_at(script, at2) else {
+    let Number::Is(third, at3) = numbers::number_at(script, at2) else {
         return EventRead::Bad;
     };
-    EventRead::Is(Kind::Geometry(band, start, length), 0, 0, at3)
-}
-
-fn transfer_at(script: &[u8], at: usize) -> EventRead
-    ensures { λ r. ⌜ parsedIn (now (script .entry)) r ≡ transferAt (now (script .entry)) at ⌝ }
-{
-    let Number::Is(direction, at1) = numbers::number_at(script, at) else {
-        return EventRead::Bad;
-    };
-    let Number::Is(start, at2) = numbers::number_at(script, at1) else {
-        return EventRead::Bad;
-    };
-    let Number::Is(count, at3) = numbers::number_at(script, at2) else {
-        return EventRead::Bad;
-    };
-    EventRead::Is(Kind::Transfer(direction, start, count), 0, 0, at3)
+    if kind == 6 {
+        return EventRead::Is(Kind::Geometry(first, second, third), 0, 0, at3);
+    }
+    EventRead::Is(Kind::Transfer(first, second, third), 0, 0, at3)
 }
 
 // The event at a place: its kind, and then its fields.
@@ -247,8 +245,7 @@ pub fn event_at(script: &[u8], at: usize) -> EventRead
         3 => reset_at(script, at1),
         4 => sensor_set_at(script, at1),
         5 => band_set_at(script, at1),
-        6 => geometry_at(script, at1),
-        7 => transfer_at(script, at1),
+        6 | 7 => three_at(script, at1, kind),
         _ => EventRead::Bad,
     }
 }

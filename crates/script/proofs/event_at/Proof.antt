@@ -1,4 +1,4 @@
-use Rattle.script.proofs.Chains.{kind-bad, kind-known, kind-unknown}
+use Rattle.script.proofs.Chains.{kind-bad, kind-known, kind-span, kind-zero, kind-large}
 use borrow.Author.Needs.{needs}
 use Rattle.script.proofs.event_at.Statement.{statement}
 use Rattle.script.proofs.event_at.Tie as tie
@@ -30,11 +30,8 @@ sensor-set-at-requires c κs = search needs
 band-set-at-requires : tie.Need-band-set-at-requires
 band-set-at-requires c κs = search needs
 
-geometry-at-requires : tie.Need-geometry-at-requires
-geometry-at-requires c κs = search needs
-
-transfer-at-requires : tie.Need-transfer-at-requires
-transfer-at-requires c κs = search needs
+three-at-requires : tie.Need-three-at-requires
+three-at-requires c κs = search needs
 
 returns-2 : tie.Need-returns-2
 returns-2 c = search kind-known
@@ -52,13 +49,13 @@ returns-6 : tie.Need-returns-6
 returns-6 c = search kind-known
 
 returns-7 : tie.Need-returns-7
-returns-7 c = search kind-known
+returns-7 c = search (kind-span, c .before .before .before .match2 .rest)
 
 returns-8 : tie.Need-returns-8
-returns-8 c = search kind-known
+returns-8 c = search kind-zero
 
 returns-9 : tie.Need-returns-9
-returns-9 c = search (kind-unknown, c .match2 .rest)
+returns-9 c = search kind-large
 
 pub event-at-spec : {M : Type 1} → statement M
 event-at-spec =
@@ -73,8 +70,7 @@ event-at-spec =
     reset-at-requires
     sensor-set-at-requires
     band-set-at-requires
-    geometry-at-requires
-    transfer-at-requires
+    three-at-requires
     returns-2
     returns-3
     returns-4
