@@ -1,4 +1,4 @@
--- What the parts' code comes to: one sensor's events, and an elapse of the sensors alone.
+-- What the parts' code comes to: one sensor's events, a Set of one row, and an elapse of the sensors alone.
 use mathlib.Core.Path.{_≡_, refl, sym, ap, ap₂, _∙_, subst}
 use Prim.Native.Nat.{ℕ, _≤_, _<_}
 use native.Mathlib.Omega.{arith}
@@ -18,9 +18,15 @@ use Rattle.sensor.specs.Single.{tickOf, loweredBy, runs, endsNext, Answers}
 use Rattle.sensors.specs.declared.Passed.{Passed}
 use Rattle.sensors.specs.Sixteen.{quietTicks, Passes}
 use Rattle.sensors.proofs.Quiet.{AllQuiet, quietTicks-quiet, sensors-jump}
+use Rattle.band.specs.declared.Row.{Row}
+use Rattle.band.specs.declared.BandColumns.{BandColumns}
+use Rattle.band.specs.Rows.{isOpen, settleRow}
+use Rattle.row_set.specs.declared.RowAnswer.{RowAnswer}
+use Rattle.row_set.specs.Forming.{SetsRow}
 use Rattle.in_place.specs.declared.inner.Moved.{Moved}
+use Rattle.in_place.specs.declared.inner.Formed.{Formed}
 use Rattle.in_place.specs.declared.inner.Passing.{Passing}
-use Rattle.in_place.specs.Parts.{Moves, byStops, PassesBy}
+use Rattle.in_place.specs.Parts.{Moves, Forms, byStops, PassesBy}
 
 -- ---- one sensor
 
@@ -37,6 +43,18 @@ moves n new one r m p q = record {
   number-is = q .number-is ∙ p .answer;
   sensor-is = q .sensor-is ∙ p .sensor;
   turned-is = q .turned-is ∙ ap (λ (s : Sensor). not (Bool·beq (one .condition) (s .condition))) (p .sensor);
+}
+
+-- ---- one row
+
+pub forms : (cs : List Bool) (c : BandColumns) (part bytes : List ℕ) (one : Row) (r : RowAnswer) (m : Formed) (new : Row) (a : ℕ) (o : Bool) → part ≡ bytes → SetsRow cs c part one r
+    → new ≡ settleRow cs (r .row) → a ≡ numberOf (r .answer) → o ≡ isOpen new → m .row ≡ new → m .number ≡ a → m .«is_open» ≡ o → Forms cs c bytes one m
+forms cs c part bytes one r m new a o et h en ea eo er em eq = record {
+  reply = r;
+  sets = subst (λ (l : List ℕ). SetsRow cs c l one r) et h;
+  number-is = em ∙ ea;
+  row-is = er ∙ en;
+  open-is = eq ∙ eo ∙ ap (λ (row : Row). isOpen row) (sym er);
 }
 
 -- ---- an elapse

@@ -424,13 +424,13 @@ set-shut (row ∷ rows) (suc i) v e f =
     let h = neither (isOpen row) (any isOpen rows) e in
     ap₂ (λ (a b : Bool). a || b) (h .0) (set-shut rows i v (h .1) f)
 
--- the same, with the bytes as the part of the script that was handed on
-pub band-half : (d : Drive) (k : Kept d) (b : ℕ) (c : BandColumns) (part bytes : List ℕ) (t : Bool) (y : Row) (cs : List Bool) (m : Formed) (o o' due : Bool) (w : ℕ)
-    → 2 < w → (o ≡ false → any isOpen (d .rows) ≡ false) → t ≡ not (isRow (d .«band_count») b) → t ≡ false → cs ≡ conditionsBelow (d .«sensor_count») (d .sensors) → part ≡ bytes
-    → Forms cs c part (getD (d .rows) b y) m → o' ≡ (o || m .«is_open») → Half d (bandSet b c bytes) (m .number) 0 (withRows (set (d .rows) b (m .row)) d) o' due w
-band-half d k b c part bytes t y cs m o o' due w g fl p e ec et h eo =
+-- with the flag: it is set where the new row is open
+pub band-half : (d : Drive) (k : Kept d) (b : ℕ) (c : BandColumns) (bytes : List ℕ) (t : Bool) (y : Row) (cs : List Bool) (m : Formed) (o o' due : Bool) (w : ℕ)
+    → 2 < w → (o ≡ false → any isOpen (d .rows) ≡ false) → t ≡ not (isRow (d .«band_count») b) → t ≡ false → cs ≡ conditionsBelow (d .«sensor_count») (d .sensors)
+    → Forms cs c bytes (getD (d .rows) b y) m → o' ≡ (o || m .«is_open») → Half d (bandSet b c bytes) (m .number) 0 (withRows (set (d .rows) b (m .row)) d) o' due w
+band-half d k b c bytes t y cs m o o' due w g fl p e ec h eo =
     whole-half d (bandSet b c bytes) (m .number) 0 (withRows (set (d .rows) b (m .row)) d) o' due w k g
-    (band-ran d k b c bytes t p e y cs ec (h .reply) (subst (λ (l : List ℕ). SetsRow cs c l (getD (d .rows) b y) (h .reply)) et (h .sets)) (m .number) (m .row) _ (h .number-is) (h .row-is) refl)
+    (band-ran d k b c bytes t p e y cs ec (h .reply) (h .sets) (m .number) (m .row) _ (h .number-is) (h .row-is) refl)
     (λ z. let q = neither o (m .«is_open») (sym eo ∙ z) in set-shut (d .rows) b (m .row) (fl (q .0)) (sym (h .open-is) ∙ q .1))
 
 -- ---- geometry and transfer

@@ -9,6 +9,7 @@ ghost use Rattle.answer.specs.Numbers.{numberOf};
 ghost use Rattle.sensor.specs.Single.{readingAnswer, readingOf};
 ghost use Rattle.sensor.specs.Columns.{setAnswer, setOf};
 ghost use Rattle.geometry.specs.Events.{transferAnswer};
+ghost use Rattle.script.specs.Fields.{tokensAt};
 ghost use Rattle.in_place.specs.Course.{Goes, Kept};
 ghost use Rattle.in_place.specs.Parts.{Moves, Forms, byStops, PassesBy};
 use band::BandColumns;
@@ -94,10 +95,18 @@ fn set(one: Sensor, columns: SensorColumns) -> Moved
     outcome(one, r)
 }
 
-// A Set of one row.
-fn form(one: Row, conditions: [bool; 16], columns: BandColumns, tokens: &[u8]) -> Formed
-    ensures { λ m. ⌜ Forms conditions columns (now (tokens .entry)) one m ⌝ }
+// A Set of one row, with the part of the script that holds the expression's bytes.
+fn form(
+    one: Row,
+    conditions: [bool; 16],
+    columns: BandColumns,
+    script: &[u8],
+    place: usize,
+    size: usize,
+) -> Formed
+    ensures { λ m. ⌜ Forms conditions columns (tokensAt (now (script .entry)) place size) one m ⌝ }
 {
+    let tokens = script::tokens_at(script, place, size);
     let r = row_set::set(one, conditions, columns, tokens);
     let formed = r.row;
     let answer = r.answer;
@@ -275,8 +284,7 @@ pub fn run_events(
                     let all = drive.sensors;
                     let conditions = sensors::conditions(all, drive.sensor_count);
                     let one = drive.rows[j];
-                    let tokens = script::tokens_at(script, place, size);
-                    let r = form(one, conditions, columns, tokens);
+                    let r = form(one, conditions, columns, script, place, size);
                     let new = r.row;
                     drive.rows[j] = new;
                     number = r.number;

@@ -134,9 +134,6 @@ mul-one-3 c = search (row-scaled, needs)
 element-copy-out-one-3 : tie.Need-element-copy-out-one-3 Inv-loop2 μ-loop2 Inv-loop μ-loop
 element-copy-out-one-3 c = search row-place
 
-tokens-at-requires : tie.Need-tokens-at-requires Inv-loop2 μ-loop2 Inv-loop μ-loop
-tokens-at-requires c κs = search needs
-
 form-requires : tie.Need-form-requires Inv-loop2 μ-loop2 Inv-loop μ-loop
 form-requires c κs = search needs
 
@@ -239,7 +236,7 @@ loop-again c =
     (⊎-elim (λ w. stored-as g (w .1 .given .1) (set-absent _ (g .loop .kept) _ _ _ above (g .loop .flag) _ _ _ (w .3 .ensures) (w .4 .taken)) (w .5) (w .6) (w .7) (w .8) (w .9) (w .10))
     (⊎-elim (λ w. stored-as g (w .1 .given .1) (set-half _ (g .loop .kept) _ _ (w .3 .ensures) (w .4 .left) _ _ _ _ _ (w .6 .ensures) above (g .loop .flag)) (w .8) (w .9) (w .10) (w .11) (w .12) (w .13))
     (⊎-elim (λ w. stored-as g (w .1 .given .1) (band-absent _ (g .loop .kept) _ _ _ above (g .loop .flag) _ _ _ _ (w .3 .ensures) (w .4 .taken)) (w .5) (w .6) (w .7) (w .8) (w .9) (w .10))
-    (⊎-elim (λ w. stored-as g (w .1 .given .1) (band-half _ (g .loop .kept) _ _ _ _ _ _ _ _ _ _ _ _ above (g .loop .flag) (w .3 .ensures) (w .4 .left) (w .6 .ensures) (w .8 .ensures) (w .9 .ensures) (w .11 .ensures)) (w .12) (w .13) (w .14) (w .15) (w .16) (w .17))
+    (⊎-elim (λ w. stored-as g (w .1 .given .1) (band-half _ (g .loop .kept) _ _ _ _ _ _ _ _ _ _ _ above (g .loop .flag) (w .3 .ensures) (w .4 .left) (w .6 .ensures) (w .8 .ensures) (w .10 .ensures)) (w .11) (w .12) (w .13) (w .14) (w .15) (w .16))
     (⊎-elim (λ w. stored-as g (w .1 .given .1) (geometry-half _ (g .loop .kept) _ _ _ _ _ _ _ _ above (g .loop .flag) (w .4 .ensures) (w .6 .ensures)) (w .7) (w .8) (w .9) (w .10) (w .11) (w .12))
     (λ w. stored-as g (w .1 .given .1) (transfer-half _ (g .loop .kept) _ _ _ _ _ _ _ _ _ above (g .loop .flag) (w .4 .ensures) (w .5 .ensures) (w .7 .ensures)) (w .8) (w .9) (w .10) (w .11) (w .12) (w .13))))))))))))
     (c .before .before .match2 .came) in
@@ -299,7 +296,6 @@ run-events-spec =
     conditions-requires
     mul-one-3
     element-copy-out-one-3
-    tokens-at-requires
     form-requires
     mul-new-3
     element-set-from-new-3

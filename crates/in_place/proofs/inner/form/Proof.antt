@@ -1,0 +1,33 @@
+use Rattle.in_place.proofs.Parts.{forms}
+use borrow.Author.Needs.{needs}
+use Rattle.in_place.proofs.inner.form.Statement.{statement}
+use Rattle.in_place.proofs.inner.form.Tie as tie
+
+tokens-at-requires : tie.Need-tokens-at-requires
+tokens-at-requires c κs = search needs
+
+set-requires : tie.Need-set-requires
+set-requires c κs = search needs
+
+settle-requires : tie.Need-settle-requires
+settle-requires c κs = search needs
+
+number-requires : tie.Need-number-requires
+number-requires c κs = search needs
+
+open-requires : tie.Need-open-requires
+open-requires c κs = search needs
+
+returns : tie.Need-returns
+returns c = search forms
+
+pub form-spec : {M : Type 1} → statement M
+form-spec =
+    tie.close
+    (tie.spec
+    tokens-at-requires
+    set-requires
+    settle-requires
+    number-requires
+    open-requires
+    returns)
