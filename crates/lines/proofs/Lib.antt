@@ -1,0 +1,4 @@
+pub mod Decimal
+pub mod Putting
+pub mod Rows
+pub mod Whole

@@ -1,0 +1,38 @@
+use Rattle.lines.proofs.Putting.{falls-by-ten, digit-room, digit-put, more-room, last-room, last-small, last-put}
+use borrow.Author.Needs.{needs}
+use Prim.Native.Nat.{ℕ, _<_}
+use borrow.Fn.Kinds.{In}
+use borrow.Fn.PlainCycle.{Measures, is, falls, and}
+use Rattle.lines.proofs.inner.put_number.Reads as put-number
+use Rattle.lines.proofs.inner.put_number.Kinds as put-number-kinds
+use Rattle.lines.proofs.inner.+put_number.Lts-put_number as put-number-lts
+use Rattle.lines.proofs.inner.+put_number.{statement}
+use Rattle.lines.proofs.inner.+put_number.Tie.{close}
+
+abbrev μ-put-number : Measures 1 put-number-kinds.ps ℕ
+μ-put-number κs a = a .1 .1 .0
+
+abbrev put-number-at : ℕ → In 1 put-number-kinds.ps
+put-number-at t =
+    and 1 put-number-kinds.ps (is 1 put-number-kinds.ps μ-put-number t) put-number.Pre
+
+abbrev put-number-below : ℕ → In 1 put-number-kinds.ps
+put-number-below t =
+    and 1 put-number-kinds.ps (falls 1 put-number-kinds.ps _<_ μ-put-number t) put-number.Pre
+
+pub +put-number-spec : {M : Type 1} → statement M
++put-number-spec =
+    close μ-put-number λ t. put-number-lts.spec (put-number-below t, put-number.Post) (put-number-at t) put-number.Post
+    (λ c. search needs)
+    (λ c. search needs)
+    (λ c. search (digit-room, needs))
+    (λ c. search (digit-room, needs))
+    (λ c. search needs)
+    (λ c. search digit-put)
+    (λ c κs. (search (falls-by-ten, needs), search (more-room, needs)))
+    (λ c. search needs)
+    (λ c. search needs)
+    (λ c. search (last-room, needs))
+    (λ c. search (last-small, needs))
+    (λ c. search needs)
+    (λ c. search (last-put, needs))
