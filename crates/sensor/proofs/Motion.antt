@@ -1,7 +1,7 @@
 -- What single moves do to a sensor: laws of `stepOf` by cause.
 use mathlib.Core.Path.{_≡_, refl, sym, ap, _∙_}
 use mathlib.Core.Bool.{Bool, true, false, cond, Bool·beq, false≢true}
-use Prim.Native.Nat.{ℕ, _-_}
+use Prim.Native.Nat.{ℕ, _-_, _≤_}
 use native.Mathlib.Omega.{arith}
 use lib.Dec.{eqb}
 use borrow.Author.Tests.{eq-eqb, ne-eqb}
@@ -20,6 +20,7 @@ use Rattle.phases.specs.declared.Cause.the-variants.{
   EnabledTrueAtOnce,
   EnabledTrueWaiting,
   EnabledFalse,
+  PowerCycle,
 }
 use Rattle.sensor.specs.declared.single.Sensor.{Sensor}
 use Rattle.phases.specs.Phases.{isEnabled, whenEnabled, whenDisabled, moveOf, settled, levelAfter}
@@ -167,3 +168,21 @@ fresh-lowered k = let e : 0 - k ≡ 0 = omega arith in ap (λ (t : ℕ). withTim
 pub fresh-power-cycle : powerCycleOf freshSensor ≡ freshSensor
 unfolding powerCycleOf stepOf moveOf freshSensor
 fresh-power-cycle = refl
+
+-- ---- what a power cycle leaves as it is
+
+as-it-is : (p : Phase) (s : Sensor) → s .level ≡ false → s .phase ≡ p → s .condition ≡ false → s .timer ≡ 0 → moved false p false 0 s ≡ s
+as-it-is p s a b c d = λ i. moved (sym a i) (sym b i) (sym c i) (sym d i) s
+
+-- nothing is TRUE and no timer runs, in a phase that a power cycle enters anew
+module _ (s : Sensor) (a : s .level ≡ false) (c : s .condition ≡ false) (d : s .timer ≤ 0) where
+  zero-timer : s .timer ≡ 0
+  zero-timer = omega (arith, d)
+
+  pub rests-disabled : s .phase ≡ SS0 → powerCycleOf s ≡ s
+  unfolding powerCycleOf stepOf moveOf
+  rests-disabled e = ap (λ (p : Phase). movedBy (moveOf p PowerCycle) (withLevel false s)) e ∙ as-it-is SS0 s a e c zero-timer
+
+  pub rests-settled : s .phase ≡ SS2 → powerCycleOf s ≡ s
+  unfolding powerCycleOf stepOf moveOf
+  rests-settled e = ap (λ (p : Phase). movedBy (moveOf p PowerCycle) (withLevel false s)) e ∙ as-it-is SS2 s a e c zero-timer

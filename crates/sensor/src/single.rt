@@ -1,6 +1,6 @@
 // One sensor, by value: what each event and each tick makes of it.
 ghost use mathlib.Core.Path.{_≡_};
-ghost use mathlib.Core.Bool.{Bool·beq};
+ghost use mathlib.Core.Bool.{true, Bool·beq};
 ghost use Rattle.sensor.specs.Level.{thousandths, levelRule};
 ghost use Rattle.sensor.specs.Single.{freshSensor, judgeOf, withLevel, withTimer, timerIn, entering, stepOf, turnCause, turnedTo, readingAnswer, readingOf, enableCause, enableOf, disableOf, powerCycleOf, tickOf, loweredBy, runs, endsNext, quietOf, Answers};
 use answer::Answer;
@@ -186,9 +186,33 @@ impl Sensor {
         self.step(Cause::Disabled)
     }
 
+    // Whether a power cycle leaves the sensor as it is: nothing TRUE, no timer, and disabled or settled FALSE.
+    fn rests(self) -> bool
+        ensures { λ r. ⌜ (r ≡ true → powerCycleOf self ≡ self) ⌝ }
+    {
+        if self.level {
+            return false;
+        }
+        if self.condition {
+            return false;
+        }
+        if 0 < self.timer {
+            return false;
+        }
+        let phase = self.phase;
+        match phase {
+            Phase::SS0 => true,
+            Phase::SS2 => true,
+            _ => false,
+        }
+    }
+
     pub fn power_cycle(self) -> Sensor
         ensures { λ r. ⌜ r ≡ powerCycleOf self ⌝ }
     {
+        if self.rests() {
+            return self;
+        }
         self.step(Cause::PowerCycle)
     }
 

@@ -5,7 +5,6 @@ ghost use Rattle.base.specs.Lists.{any, oneIf};
 ghost use Rattle.base.specs.Lists.{count as countOf};
 ghost use Rattle.sensor.specs.Single.{tickOf, loweredBy, powerCycleOf, runs, endsNext};
 ghost use Rattle.sensors.specs.Sixteen.{quietTicks, turnOf, conditionsBelow, Passes};
-use phases::Cause;
 use sensor::Sensor;
 
 // The sensors after some ticks, and the stops among these.
@@ -55,7 +54,7 @@ pub fn power_cycle_all(sensors: [Sensor; 16]) -> [Sensor; 16]
     let mut out = sensors;
     for i in 0..16 {
         let s = out[i];
-        let cycled = s.step(Cause::PowerCycle);
+        let cycled = s.power_cycle();
         out[i] = cycled;
     }
     out

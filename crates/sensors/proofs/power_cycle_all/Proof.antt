@@ -20,8 +20,8 @@ mul-s c = search needs
 array-copy-out-s : tie.Need-array-copy-out-s Inv-loop μ-loop
 array-copy-out-s c = search needs
 
-step-requires : tie.Need-step-requires Inv-loop μ-loop
-step-requires c κs = search needs
+power-cycle-requires : tie.Need-power-cycle-requires Inv-loop μ-loop
+power-cycle-requires c κs = search needs
 
 mul-out : tie.Need-mul-out Inv-loop μ-loop
 mul-out c = search needs
@@ -36,7 +36,6 @@ loop-less : tie.Need-loop-less Inv-loop μ-loop
 loop-less c = search needs
 
 loop-again : tie.Need-loop-again Inv-loop μ-loop
-unfolding powerCycleOf
 loop-again c = search map-again
 
 returns : tie.Need-returns Inv-loop μ-loop
@@ -51,7 +50,7 @@ power-cycle-all-spec =
     loop-holds
     mul-s
     array-copy-out-s
-    step-requires
+    power-cycle-requires
     mul-out
     array-set-from-out
     add-i
