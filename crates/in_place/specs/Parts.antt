@@ -34,15 +34,15 @@ pub record Forms (conditions : List Bool) (columns : BandColumns) (bytes : List 
   pub open-is : r .«is_open» ≡ isOpen (r .row)
 
 -- "2 out of range": an elapse has at most 4,294,967,295 ticks
-abbrev pub tooLong : ℕ → Bool
-tooLong n = ltb 4294967295 n
+abbrev pub tooManyTicks : ℕ → Bool
+tooManyTicks n = ltb 4294967295 n
 
 -- a timer ends in an elapse while a row may be open
 unfoldable pub byStops : Bool → ℕ → List Sensor → Bool
-byStops mayBeOpen n l = cond (tooLong n) false (mayBeOpen && ltb (quietTicks n l) n)
+byStops mayBeOpen n l = cond (tooManyTicks n) false (mayBeOpen && ltb (quietTicks n l) n)
 
 -- an elapse of the sensors alone: "n ticks", and "the ticks at which some timer ends"
 pub record PassesBy (n : ℕ) (l : List Sensor) (r : Passing) : Type 0 where
-  pub number-is : r .number ≡ cond (tooLong n) 2 0
-  pub sensors-are : r .sensors ≡ cond (tooLong n) l (ticks (map tickOf) n l)
-  pub stops-are : r .stops ≡ cond (tooLong n) 0 (stops (map tickOf) (any endsNext) n l)
+  pub number-is : r .number ≡ cond (tooManyTicks n) 2 0
+  pub sensors-are : r .sensors ≡ cond (tooManyTicks n) l (ticks (map tickOf) n l)
+  pub stops-are : r .stops ≡ cond (tooManyTicks n) 0 (stops (map tickOf) (any endsNext) n l)
