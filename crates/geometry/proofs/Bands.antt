@@ -2,8 +2,8 @@
 use mathlib.Core.Path.{_≡_, refl, sym, _∙_, subst}
 use Prim.Native.Nat.{ℕ, zero, suc, _+_, _-_, _≤_, _<_}
 use native.Mathlib.Omega.{arith}
-use mathlib.Core.Bool.{Bool, true, false, cond, _||_, false≢true}
-use mathlib.Core.List.{List, [], _∷_}
+use mathlib.Core.Bool.{Bool, true, false, cond, not, _||_, false≢true}
+use mathlib.Core.List.{List, [], _∷_, foldl}
 use lib.ListN.{length, getD}
 use Rattle.base.proofs.Cases.{cond-true, cond-false, and-yes}
 use Rattle.geometry.specs.declared.Span.{Span}
@@ -57,6 +57,26 @@ module _ (bands : ℕ) (spans : List Span) (block : ℕ) where
       none-at 1 (bandSpans bands spans) block
       (λ i. refuted _
       (λ t. false≢true (sym (f (1 + i) (omega arith) (below bands spans i block t)) ∙ at-band bands spans i block t)))
+
+-- no band is closed
+once-true : (l : List Bool) → foldl _||_ true l ≡ true
+once-true [] = refl
+once-true (b ∷ l) = once-true l
+
+all-false : (l : List Bool) (k : ℕ) → foldl _||_ false l ≡ false → getD l k false ≡ false
+all-false [] k e = refl
+all-false (true ∷ l) k e = absurd (false≢true (sym e ∙ once-true l))
+all-false (false ∷ l) zero e = refl
+all-false (false ∷ l) (suc k) e = all-false l k e
+
+denied : (t : Bool) → not t ≡ true → t ≡ false
+denied true e = absurd (false≢true e)
+denied false e = refl
+
+pub none-closed : (bands : ℕ) (spans : List Span) (closed : List Bool) (start count : ℕ) (t : Bool) → t ≡ foldl _||_ false closed → not t ≡ true
+    → false ≡ touchesOf bands spans closed start count
+none-closed bands spans closed start count t e q =
+    sym (any-none (closedAt bands spans closed) start count (λ y u v. all-false closed (bandOf bands spans y) (sym e ∙ denied t q)))
 
 -- a range in which no closed band has a block, and band 0 is open
 module _ (bands : ℕ) (spans : List Span) (closed : List Bool) (start count : ℕ) (r : Bool)

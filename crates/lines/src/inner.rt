@@ -23,7 +23,71 @@ use band::Row;
 use drive::Drive;
 use sensor::Sensor;
 
-// Writes a number in decimal from place `at` on, and tells the place after it.
+fn put_digits(out: &mut [u8], at: usize, n: u64) -> usize
+    requires { ⌜ Room (decimal n) at (now out) ⌝ }
+    ensures { λ r. ⌜ Puts (decimal n) (now (out .entry)) at r (now (out .exit)) ⌝ }
+{
+    if n < 10 {
+        out[at] = b'0' + (n as u8);
+        return at + 1;
+    }
+    let next = put_digits(out, at, n / 10);
+    out[next] = b'0' + ((n % 10) as u8);
+    next + 1
+}
+
+fn put_first(out: &mut [u8], at: usize, n: u64) -> usize
+    requires { ⌜ Room (decimal n) at (now out) ⌝ }
+    ensures { λ r. ⌜ Puts (decimal n) (now (out .entry)) at r (now (out .exit)) ⌝ }
+{
+    if n < 10 {
+        out[at] = b'0' + (n as u8);
+        return at + 1;
+    }
+    let next = put_digits(out, at, n / 10);
+    out[next] = b'0' + ((n % 10) as u8);
+    next + 1
+}
+
+fn put_second(out: &mut [u8], at: usize, n: u64) -> usize
+    requires { ⌜ Room (decimal n) at (now out) ⌝ }
+    ensures { λ r. ⌜ Puts (decimal n) (now (out .entry)) at r (now (out .exit)) ⌝ }
+{
+    if n < 10 {
+        out[at] = b'0' + (n as u8);
+        return at + 1;
+    }
+    let next = put_first(out, at, n / 10);
+    out[next] = b'0' + ((n % 10) as u8);
+    next + 1
+}
+
+fn put_third(out: &mut [u8], at: usize, n: u64) -> usize
+    requires { ⌜ Room (decimal n) at (now out) ⌝ }
+    ensures { λ r. ⌜ Puts (decimal n) (now (out .entry)) at r (now (out .exit)) ⌝ }
+{
+    if n < 10 {
+        out[at] = b'0' + (n as u8);
+        return at + 1;
+    }
+    let next = put_second(out, at, n / 10);
+    out[next] = b'0' + ((n % 10) as u8);
+    next + 1
+}
+
+fn put_fourth(out: &mut [u8], at: usize, n: u64) -> usize
+    requires { ⌜ Room (decimal n) at (now out) ⌝ }
+    ensures { λ r. ⌜ Puts (decimal n) (now (out .entry)) at r (now (out .exit)) ⌝ }
+{
+    if n < 10 {
+        out[at] = b'0' + (n as u8);
+        return at + 1;
+    }
+    let next = put_third(out, at, n / 10);
+    out[next] = b'0' + ((n % 10) as u8);
+    next + 1
+}
+
 fn put_number(out: &mut [u8], at: usize, n: u64) -> usize
     requires { ⌜ Room (decimal n) at (now out) ⌝ }
     ensures { λ r. ⌜ Puts (decimal n) (now (out .entry)) at r (now (out .exit)) ⌝ }
@@ -32,7 +96,7 @@ fn put_number(out: &mut [u8], at: usize, n: u64) -> usize
         out[at] = b'0' + (n as u8);
         return at + 1;
     }
-    let next = put_number(out, at, n / 10);
+    let next = put_fourth(out, at, n / 10);
     out[next] = b'0' + ((n % 10) as u8);
     next + 1
 }

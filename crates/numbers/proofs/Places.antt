@@ -1,5 +1,5 @@
 -- The clauses of `groupsFrom` at a place of the bytes, as the code meets them.
-use mathlib.Core.Path.{_≡_, refl, _∙_}
+use mathlib.Core.Path.{_≡_, refl, ap, _∙_}
 use Prim.Native.Nat.{ℕ, zero, suc, _+_, _-_, _*_, _%_, _≤_, _<_}
 use native.Mathlib.Numerals.{add-one}
 use native.Mathlib.Omega.{arith}
@@ -46,6 +46,34 @@ further zero at s b rest r n h e l p w = absurd (n refl)
 further (suc k) at s b rest r n h e l p w =
     let q : suc k - 1 ≡ k = omega arith in
     w ∙ rw (at-byte k at s h, ← e, le-ltb b 128 l, p, q)
+
+-- the second of two groups that one call reads
+not-last : (left : ℕ) → (left ≡ 0 → ⊥) → (left ≡ 1 → ⊥) → left - 1 ≡ 0 → ⊥
+not-last zero n n' e = n refl
+not-last (suc zero) n n' e = n' refl
+not-last (suc (suc k)) n n' e = absurd (omega (arith, e))
+
+module _ (left at : ℕ) (s : List ℕ) (b : ℕ) (n : left ≡ 0 → ⊥) (h : at < length s) (e : b ≡ getD s at 0) (l : 128 ≤ b) where
+  pub one-left : left ≡ 1 → none ≡ groupsFrom left at (drop at s)
+  one-left q = further left at s b Bad Bad n h e l (none-left (left - 1) (at + 1) (drop (at + 1) s) (omega (arith, q))) refl
+
+  pub one-byte : length s ≤ at + 1 → none ≡ groupsFrom left at (drop at s)
+  one-byte q = further left at s b Bad Bad n h e l (no-byte (left - 1) (at + 1) s q) refl
+
+  module _ (m : left ≡ 1 → ⊥) (b' : ℕ) (h' : at + 1 < length s) (e' : b' ≡ getD s (at + 1) 0) where
+    pub second-last : (rest r : Number) → b' < 128 → rest ≡ Is b' (at + 2) → foundIn r ≡ prefixed b (foundIn rest)
+        → foundIn r ≡ groupsFrom left at (drop at s)
+    second-last rest r l' q w =
+        let z : at + 2 ≡ at + 1 + 1 = omega arith in
+        further left at s b rest r n h e l (ap foundIn q ∙ ap (λ (k : ℕ). found b' k) z ∙ last (left - 1) (at + 1) s b' (not-last left n m) h' e' l') w
+
+    pub second-further : (rest more r : Number) → 128 ≤ b' → foundIn rest ≡ groupsFrom (left - 2) (at + 2) (drop (at + 2) s)
+        → foundIn more ≡ prefixed b' (foundIn rest) → foundIn r ≡ prefixed b (foundIn more) → foundIn r ≡ groupsFrom left at (drop at s)
+    second-further rest more r l' p w' w =
+        let z : at + 2 ≡ at + 1 + 1 = omega arith in
+        let y : left - 2 ≡ left - 1 - 1 = omega arith in
+        let p' : foundIn rest ≡ groupsFrom (left - 1 - 1) (at + 1 + 1) (drop (at + 1 + 1) s) = p ∙ ap (λ (k : ℕ). groupsFrom (left - 2) k (drop k s)) z ∙ ap (λ (k : ℕ). groupsFrom k (at + 1 + 1) (drop (at + 1 + 1) s)) y in
+        further left at s b more r n h e l (further (left - 1) (at + 1) s b' rest more (not-last left n m) h' e' l' p' w') w
 
 -- a group in front of what the rest reads to
 module _ (group v next : ℕ) (rest : Number) (e : rest ≡ Is v next) where

@@ -34,7 +34,7 @@ fn joined(group: u64, rest: Number) -> Number
     }
 }
 
-// The number at a place, in at most `left` groups.
+// The number at a place, in at most `left` groups; two of them a call.
 fn groups_at(bytes: &[u8], at: usize, left: usize) -> Number
     ensures { λ r. ⌜ foundIn r ≡ groupsFrom left at (drop at (now (bytes .entry))) ⌝ }
 {
@@ -48,8 +48,18 @@ fn groups_at(bytes: &[u8], at: usize, left: usize) -> Number
     if group < 128 {
         return Number::Is(group, at + 1);
     }
-    let rest = groups_at(bytes, at + 1, left - 1);
-    joined(group, rest)
+    if left == 1 {
+        return Number::Bad;
+    }
+    if bytes.len() <= at + 1 {
+        return Number::Bad;
+    }
+    let second = wide(bytes[at + 1]);
+    if second < 128 {
+        return joined(group, Number::Is(second, at + 2));
+    }
+    let rest = groups_at(bytes, at + 2, left - 2);
+    joined(group, joined(second, rest))
 }
 
 // The number at a place of the bytes. Most have one group, and cost no call.

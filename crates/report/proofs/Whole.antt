@@ -25,6 +25,7 @@ use Rattle.report.specs.Listing.{listing, Told, told, toldIn, listOf}
 use Rattle.lines.specs.Parts.{Puts, Room}
 use Rattle.report.specs.Parts.{runLines, Sized}
 use Rattle.report.proofs.Short.{never-short}
+use Rattle.report.proofs.Handing.{handed}
 
 -- a buffer that is made anew has its length
 pub made-long : (n : ℕ) → n ≤ length {A = ℕ} (replicate n 0)
@@ -123,6 +124,13 @@ module _ (s answers stops : List ℕ) (long : 32766 ≤ length answers) (wide : 
 
         pub script-listed : (lent after : List ℕ) (t : Listed) → toldIn t after ≡ listOf (take n page') lent → toldIn t after ≡ listOf (listing (readScript s)) lent
         script-listed lent after t h = h ∙ ap (λ (bytes : List ℕ). listOf bytes lent) page-holds
+
+        -- written straight into an output that is long enough
+        pub straight-listed : told 0 n page' ≡ listOf (listing (readScript s)) page
+        straight-listed =
+            let b : List ℕ = runLines (outcomeIn r answers' stops') in
+            let k : n ≡ length b = omega (arith, p .place) in
+            ap (λ (m : ℕ). told 0 m page') k ∙ handed b page page' (omega (arith, ran-room)) (p .output) ∙ ap (λ (bytes : List ℕ). listOf bytes page) ran-lines
 
 abbrev answerIn : Told → ℕ
 answerIn (told answer n output) = answer

@@ -90,6 +90,28 @@ fn list_by(
     hand(&page[..length], out)
 }
 
+// Lists a script straight into an output that is long enough for every listing.
+fn list_into(script: &[u8], out: &mut [u8], answers: &mut [u8], stops: &mut [u8]) -> Listed
+    requires { ⌜ (32766 ≤ length (now answers)) × (32766 ≤ length (now stops)) × (426486 ≤ length (now out)) ⌝ }
+    ensures { λ r. ⌜ toldIn r (now (out .exit)) ≡ listOf (listing (readScript (now (script .entry)))) (now (out .entry)) ⌝ }
+{
+    let ran = run::run(script, 65_536, answers, stops);
+    let length = put_run(out, ran, answers, stops);
+    Listed {
+        answer: Answer::Done,
+        length,
+    }
+}
+
+// Lists a script by way of a page of its own, which costs an instruction for each of its bytes.
+fn list_by_page(script: &[u8], out: &mut [u8], answers: &mut [u8], stops: &mut [u8]) -> Listed
+    requires { ⌜ (32766 ≤ length (now answers)) × (32766 ≤ length (now stops)) ⌝ }
+    ensures { λ r. ⌜ toldIn r (now (out .exit)) ≡ listOf (listing (readScript (now (script .entry)))) (now (out .entry)) ⌝ }
+{
+    let mut page = [0; MOST];
+    list_by(script, out, answers, stops, &mut page)
+}
+
 // Lists a script: document 01's listing into the lent output, from its start. A refusal leaves the output as it was.
 pub fn list(script: &[u8], out: &mut [u8]) -> Listed
     ensures { λ r. ⌜ toldIn r (now (out .exit)) ≡ listOf (listing (readScript (now (script .entry)))) (now (out .entry)) ⌝ }
@@ -97,8 +119,10 @@ pub fn list(script: &[u8], out: &mut [u8]) -> Listed
 {
     let mut answers = [0; 32_766];
     let mut stops = [0; 32_766];
-    let mut page = [0; MOST];
-    list_by(script, out, &mut answers, &mut stops, &mut page)
+    if MOST <= out.len() {
+        return list_into(script, out, &mut answers, &mut stops);
+    }
+    list_by_page(script, out, &mut answers, &mut stops)
 }
 
 // The first bytes of a page; all of it where it has no more.

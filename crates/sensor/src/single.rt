@@ -187,7 +187,7 @@ impl Sensor {
     }
 
     // Whether a power cycle leaves the sensor as it is: nothing TRUE, no timer, and disabled or settled FALSE.
-    fn rests(self) -> bool
+    pub fn rests(self) -> bool
         ensures { λ r. ⌜ (r ≡ true → powerCycleOf self ≡ self) ⌝ }
     {
         if self.level {

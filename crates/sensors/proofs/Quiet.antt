@@ -13,7 +13,7 @@ use Rattle.base.proofs.Lists.{or-le}
 use Rattle.base.proofs.Jumps.{Jumps}
 use Rattle.base.proofs.Loops.{Mapped, map-again, map-skip}
 use Rattle.sensor.specs.declared.single.Sensor.{Sensor}
-use Rattle.sensor.specs.Single.{tickOf, loweredBy, endsNext, runs, quietOf}
+use Rattle.sensor.specs.Single.{tickOf, loweredBy, powerCycleOf, endsNext, runs, quietOf}
 use Rattle.sensor.proofs.Ticks.{
   QuietFor,
   quiet-less,
@@ -126,6 +126,16 @@ module _ (n : ℕ) (l m x : List Sensor) (i : ℕ) (d : Sensor) (s : Mapped tick
   one-stays t p e q =
       let none : getD m i d .timer ≡ 0 = omega (arith, ltb-false 0 (getD m i d .timer) (sym p ∙ e)) in
       rw q (map-skip tickOf n l m i d s h (sym (tick-none (getD m i d) none)))
+
+-- ---- a turn of a power cycle
+
+module _ (n : ℕ) (l m x : List Sensor) (i : ℕ) (d : Sensor) (s : Mapped powerCycleOf n l m i) (h : i < n) where
+  pub one-cycles : (v : Sensor) → v ≡ powerCycleOf (getD m i d) → x ≡ set m i v → Mapped powerCycleOf n l x (i + 1)
+  one-cycles v e q = rw q (map-again powerCycleOf n l m i v d s h e)
+
+  -- another rests, and is left
+  pub one-rests : powerCycleOf (getD m i d) ≡ getD m i d → x ≡ m → Mapped powerCycleOf n l x (i + 1)
+  one-rests f q = rw q (map-skip powerCycleOf n l m i d s h (sym f))
 
 -- ---- stops use up running timers
 

@@ -47,15 +47,17 @@ pub fn lower_all(sensors: [Sensor; 16], k: u32) -> [Sensor; 16]
     out
 }
 
-// Each sensor after a power cycle.
+// Each sensor after a power cycle, which changes those alone that do not rest.
 pub fn power_cycle_all(sensors: [Sensor; 16]) -> [Sensor; 16]
     ensures { λ r. ⌜ r ≡ map powerCycleOf sensors ⌝ }
 {
     let mut out = sensors;
     for i in 0..16 {
         let s = out[i];
-        let cycled = s.power_cycle();
-        out[i] = cycled;
+        if s.rests() {} else {
+            let cycled = s.power_cycle();
+            out[i] = cycled;
+        }
     }
     out
 }

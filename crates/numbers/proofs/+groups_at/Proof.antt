@@ -1,4 +1,4 @@
-use Rattle.numbers.proofs.Places.{none-left, no-byte, last, further}
+use Rattle.numbers.proofs.Places.{none-left, no-byte, last, one-left, one-byte, second-last, second-further}
 use native.Mathlib.Omega.{arith}
 use borrow.Author.Needs.{needs}
 use Prim.Native.Nat.{ℕ, _<_}
@@ -26,10 +26,10 @@ pub +groups-at-spec : {M : Type 1} → statement M
 +groups-at-spec = close μ-groups-at λ t. groups-at-lts.spec (
   wide-reads.Asked,
   wide-reads.Learnt,
-  groups-at-below t,
-  groups-at.Post,
   joined-reads.Asked,
   joined-reads.Learnt,
+  groups-at-below t,
+  groups-at.Post,
 )
     (groups-at-at t)
     groups-at.Post
@@ -39,8 +39,18 @@ pub +groups-at-spec : {M : Type 1} → statement M
     (λ c κs. search needs)
     (λ c. search needs)
     (λ c. search last)
+    (λ c. search one-left)
+    (λ c. search needs)
+    (λ c. search one-byte)
+    (λ c. search needs)
+    (λ c. search needs)
+    (λ c κs. search needs)
+    (λ c. search needs)
+    (λ c κs. search needs)
+    (λ c. search second-last)
     (λ c. search needs)
     (λ c. search needs)
     (λ c κs. (omega arith, tt))
     (λ c κs. search needs)
-    (λ c. search further)
+    (λ c κs. search needs)
+    (λ c. search second-further)

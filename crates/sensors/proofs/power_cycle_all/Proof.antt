@@ -1,7 +1,9 @@
 use borrow.Author.Needs.{needs}
 use Rattle.sensor.specs.Single.{powerCycleOf}
 use Prim.Native.Nat.{_-_}
-use Rattle.base.proofs.Loops.{Mapped, map-begin, map-again, map-done}
+use Rattle.base.proofs.Loops.{Mapped, map-begin, map-done}
+use Rattle.sensors.proofs.Quiet.{one-cycles, one-rests}
+use mathlib.Core.Logic.{⊎-elim}
 use Rattle.sensors.proofs.power_cycle_all.Statement.{statement}
 use Rattle.sensors.proofs.power_cycle_all.Tie as tie
 
@@ -20,6 +22,9 @@ mul-s c = search needs
 array-copy-out-s : tie.Need-array-copy-out-s Inv-loop μ-loop
 array-copy-out-s c = search needs
 
+rests-requires : tie.Need-rests-requires Inv-loop μ-loop
+rests-requires c κs = search needs
+
 power-cycle-requires : tie.Need-power-cycle-requires Inv-loop μ-loop
 power-cycle-requires c κs = search needs
 
@@ -36,7 +41,7 @@ loop-less : tie.Need-loop-less Inv-loop μ-loop
 loop-less c = search needs
 
 loop-again : tie.Need-loop-again Inv-loop μ-loop
-loop-again c = search map-again
+loop-again c = ⊎-elim (λ w. search (one-rests, c .before .rests .ensures)) (λ w. search one-cycles) (c .if1 .came)
 
 returns : tie.Need-returns Inv-loop μ-loop
 returns c = search map-done
@@ -50,6 +55,7 @@ power-cycle-all-spec =
     loop-holds
     mul-s
     array-copy-out-s
+    rests-requires
     power-cycle-requires
     mul-out
     array-set-from-out
