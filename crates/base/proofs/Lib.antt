@@ -6,3 +6,4 @@ pub mod Turns
 pub mod Columns
 pub mod Rows
 pub mod Spliced
+pub mod Refusals

@@ -3,11 +3,11 @@ use mathlib.Core.Path.{_≡_, refl, sym, ap, _∙_}
 use mathlib.Core.Logic.{_≢_}
 use Prim.Native.Nat.{ℕ, zero, suc, _<_, _≤_}
 use native.Mathlib.Omega.{arith}
-use mathlib.Core.Bool.{Bool, true, false, _&&_, false≢true}
-use mathlib.Core.List.{List, [], _∷_}
+use mathlib.Core.Bool.{Bool, true, false, not, _&&_, false≢true}
+use mathlib.Core.List.{List, [], _∷_, map}
 use lib.Dec.{ltb}
 use lib.ListN.{length, getD, set}
-use borrow.Author.Tests.{lt-ltb, le-ltb, ltb-true}
+use borrow.Author.Tests.{lt-ltb, le-ltb, ltb-true, not-false}
 use Rattle.base.specs.Rows.{isRow, modify}
 use Rattle.base.proofs.Cases.{and-yes, and-no, and-left, and-right}
 
@@ -26,6 +26,13 @@ is-row count i h k = sym (and-yes _ _ _ (lt-ltb _ _ h) (sym (lt-ltb _ _ k)))
 
 pub row-is : (count i : ℕ) → isRow count i ≡ true → (i < count) × (i < 16)
 row-is count i e = (ltb-true i count (and-left (ltb i count) (ltb i 16) e), ltb-true i 16 (and-right (ltb i count) (ltb i 16) e))
+
+-- a row that a call found to be there, and its place
+pub row-there : (count i : ℕ) (t : Bool) → t ≡ not (isRow count i) → t ≡ false → isRow count i ≡ true
+row-there count i t p e = not-false (isRow count i) (sym p ∙ e)
+
+pub row-place : (count i : ℕ) (t : Bool) → t ≡ not (isRow count i) → t ≡ false → i < 16
+row-place count i t p e = row-is count i (row-there count i t p e) .1
 
 -- a read and a store at one place: the default of the read does not matter
 pub modify-set : {A : Type 0} (f : A → A) (l : List A) (i : ℕ) (d v : A) → v ≡ f (getD l i d) → i < length l → set l i v ≡ modify f i l
@@ -80,3 +87,10 @@ pub length-modify : {A : Type 0} (f : A → A) (i : ℕ) (l : List A) → length
 length-modify f i [] = refl
 length-modify f zero (x ∷ l) = refl
 length-modify f (suc i) (x ∷ l) = ap suc (length-modify f i l)
+
+-- what holds of each element, and of what stands for those past the end, holds of each once all are changed
+pub map-keeps : {A : Type 0} (P : A → Type 0) (f : A → A) → ((x : A) → P x → P (f x)) → (z : A) (l : List A) (i : ℕ) → P z → P (getD l i z)
+    → P (getD (map f l) i z)
+map-keeps P f k z [] i p q = p
+map-keeps P f k z (x ∷ l) zero p q = k x q
+map-keeps P f k z (x ∷ l) (suc i) p q = map-keeps P f k z l i p q

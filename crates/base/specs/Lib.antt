@@ -3,3 +3,4 @@ pub mod Ticks
 pub mod Columns
 pub mod Rows
 pub mod Spliced
+pub mod Refusals

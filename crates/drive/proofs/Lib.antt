@@ -1,2 +1,4 @@
 pub mod Settling
 pub mod Rows
+pub mod Answers
+pub mod Keeping

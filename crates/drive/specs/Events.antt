@@ -1,19 +1,18 @@
 -- Document 01: the events, the table of refusals, and what an event makes of a drive.
-use Prim.Native.Nat.{ℕ, suc}
+use Prim.Native.Nat.{ℕ}
 use mathlib.Core.Path.{_≡_}
-use mathlib.Core.Bool.{Bool, false, not, cond, _||_}
+use mathlib.Core.Bool.{Bool, not, cond, _||_}
 use mathlib.Core.List.{List, [], _∷_, map}
 use lib.Dec.{eqb, ltb}
 use lib.ListN.{length}
 use Rattle.base.specs.Ticks.{ticks, stops}
 use Rattle.base.specs.Columns.{named}
+use Rattle.base.specs.Refusals.{Refusal, when, firstOf, LowestOf}
 use Rattle.base.specs.Rows.{isRow, modify}
 use Rattle.answer.specs.Numbers.{numberOf}
 use Rattle.sensor.specs.declared.columns.SensorColumns.{SensorColumns}
-use Rattle.sensor.specs.Level.{greatestReading}
-use Rattle.sensor.specs.Single.{readingOf, powerCycleOf}
-use Rattle.sensor.specs.Columns.{setOf}
-use Rattle.sensor.specs.Columns.{columnsFit as sensorColumnsFit}
+use Rattle.sensor.specs.Single.{readingRefusals, readingOf, powerCycleOf}
+use Rattle.sensor.specs.Columns.{setRefusals, setOf}
 use Rattle.token_reader.specs.Read.{readTokens, answerIn, expressionIn}
 use Rattle.band.specs.declared.Side.{Side}
 use Rattle.band.specs.declared.Side.the-variants.{Read, Write}
@@ -22,8 +21,7 @@ use Rattle.band.specs.declared.BandColumns.{BandColumns}
 use Rattle.band.specs.Rows.{closedOn, valueIn, resetRow}
 use Rattle.band.specs.Sets.{formedRow, heldBy}
 use Rattle.band.specs.Sets.{columnsFit as bandColumnsFit}
-use Rattle.geometry.specs.Blocks.{bandSpans, overlapping, touchesOf}
-use Rattle.geometry.specs.Events.{pastEnd, placed}
+use Rattle.geometry.specs.Events.{placeRefusals, transferRefusals, placed}
 use Rattle.drive.specs.declared.Drive.{Drive}
 use Rattle.drive.specs.declared.Kind.{Kind}
 use Rattle.drive.specs.declared.Kind.the-variants as K
@@ -41,123 +39,90 @@ pub data Event : Type 0 where
   geometry : (band start length : ℕ) → Event
   transfer : (direction start count : ℕ) → Event
 
--- ---- the table of refusals, a definition for each row
+-- One shape of an event: what it does to time, to resets and to a band. Every other event does none of these.
+pub data Shape : Type 0 where
+  ticking : (ticks : ℕ) → Shape
+  resetting : (type : ℕ) → Shape
+  setting : (band : ℕ) (columns : BandColumns) (tokens : List ℕ) → Shape
+  other : Shape
 
--- 1 "no row: the band or sensor is not below its count"
-abbrev pub noRow : Drive → Event → Bool
-noRow d (reading s v) = not (isRow (d .«sensor_count») s)
-noRow d (elapse n) = false
-noRow d (reset t) = false
-noRow d (sensorSet s c) = not (isRow (d .«sensor_count») s)
-noRow d (bandSet b c bytes) = not (isRow (d .«band_count») b)
-noRow d (geometry b start n) = not (isRow (d .«band_count») b)
-noRow d (transfer w start n) = false
+abbrev pub shapeOf : Event → Shape
+shapeOf (reading s v) = other
+shapeOf (elapse n) = ticking n
+shapeOf (reset t) = resetting t
+shapeOf (sensorSet s c) = other
+shapeOf (bandSet b c bytes) = setting b c bytes
+shapeOf (geometry b start n) = other
+shapeOf (transfer w start n) = other
 
--- 2 "out of range: a field exceeds its range"; "an unknown mask bit or more than 1,024 expression bytes gets 2"
-abbrev pub outOfRange : Drive → Event → Bool
-outOfRange d (reading s v) = ltb greatestReading v
-outOfRange d (elapse n) = ltb 4294967295 n
-outOfRange d (reset t) = ltb 2 t
-outOfRange d (sensorSet s c) = not (sensorColumnsFit c)
-outOfRange d (bandSet b c bytes) = not (bandColumnsFit c) || ltb 1024 (length bytes)
-outOfRange d (geometry b start n) = false
-outOfRange d (transfer w start n) = ltb 1 w
+-- what is said of an elapse, of a reset and of a band Set, and of all other events
+abbrev pub ifTicking : {A : Type 0} → Shape → (ℕ → A) → A → A
+ifTicking (ticking n) f a = f n
+ifTicking (resetting t) f a = a
+ifTicking (setting b c bytes) f a = a
+ifTicking other f a = a
 
--- what the token reader answers to a Set's bytes, where the Set names them
-abbrev pub tokensAnswer : BandColumns → List ℕ → ℕ
-tokensAnswer c bytes = cond (named 32 (c .mask)) (answerIn (readTokens bytes)) 0
+abbrev pub ifResetting : {A : Type 0} → Shape → (ℕ → A) → A → A
+ifResetting (ticking n) f a = a
+ifResetting (resetting t) f a = f t
+ifResetting (setting b c bytes) f a = a
+ifResetting other f a = a
 
--- 3 "not tokens: the expression bytes break the token form"; "of 3 and 4 the one met first from the left"
-abbrev pub notTokens : Drive → Event → Bool
-notTokens d (reading s v) = false
-notTokens d (elapse n) = false
-notTokens d (reset t) = false
-notTokens d (sensorSet s c) = false
-notTokens d (bandSet b c bytes) = eqb (tokensAnswer c bytes) 3
-notTokens d (geometry b start n) = false
-notTokens d (transfer w start n) = false
+abbrev pub ifSetting : {A : Type 0} → Shape → (ℕ → BandColumns → List ℕ → A) → A → A
+ifSetting (ticking n) f a = a
+ifSetting (resetting t) f a = a
+ifSetting (setting b c bytes) f a = f b c bytes
+ifSetting other f a = a
 
--- 4 "too long: after 32 elements another F2 stands where an element may begin"
-abbrev pub tooLong : Drive → Event → Bool
-tooLong d (reading s v) = false
-tooLong d (elapse n) = false
-tooLong d (reset t) = false
-tooLong d (sensorSet s c) = false
-tooLong d (bandSet b c bytes) = eqb (tokensAnswer c bytes) 4
-tooLong d (geometry b start n) = false
-tooLong d (transfer w start n) = false
-
--- 5 "global: geometry for band 0"
-abbrev pub global : Drive → Event → Bool
-global d (reading s v) = false
-global d (elapse n) = false
-global d (reset t) = false
-global d (sensorSet s c) = false
-global d (bandSet b c bytes) = false
-global d (geometry b start n) = eqb b 0
-global d (transfer w start n) = false
-
--- 6 "past end: a geometry's or transfer's start exceeds capacity, or its length or count exceeds capacity less start"
-abbrev pub beyond : Drive → Event → Bool
-beyond d (reading s v) = false
-beyond d (elapse n) = false
-beyond d (reset t) = false
-beyond d (sensorSet s c) = false
-beyond d (bandSet b c bytes) = false
-beyond d (geometry b start n) = pastEnd (d .capacity) start n
-beyond d (transfer w start n) = pastEnd (d .capacity) start n
-
--- 7 "overlap: two non-empty bands would share a block"
-abbrev pub overlaps : Drive → Event → Bool
-overlaps d (reading s v) = false
-overlaps d (elapse n) = false
-overlaps d (reset t) = false
-overlaps d (sensorSet s c) = false
-overlaps d (bandSet b c bytes) = false
-overlaps d (geometry b start n) = overlapping (bandSpans (d .«band_count») (placed (d .spans) b start n))
-overlaps d (transfer w start n) = false
+-- ---- the refusals of each event, in the order in which they are given
 
 -- "A Set forms the new row", with "the new [expression], if the Set names it"
 abbrev pub formedFrom : BandColumns → List ℕ → Row → Row
 formedFrom c bytes row = formedRow c (expressionIn (readTokens bytes)) row
 
--- 8 "held: an unlock under a TRUE expression"
-abbrev pub held : Drive → Event → Bool
-held d (reading s v) = false
-held d (elapse n) = false
-held d (reset t) = false
-held d (sensorSet s c) = false
-held d (bandSet b c bytes) =
-    heldBy c (formedFrom c bytes (rowAt d b)) (valueIn (conditionsOf d) (formedFrom c bytes (rowAt d b)))
-held d (geometry b start n) = false
-held d (transfer w start n) = false
+-- what the token reader answers to a Set's bytes, where the Set names them
+abbrev pub tokensAnswer : BandColumns → List ℕ → ℕ
+tokensAnswer c bytes = cond (named 32 (c .mask)) (answerIn (readTokens bytes)) 0
+
+-- a new row whose Set is held, under the conditions
+abbrev pub heldUnder : List Bool → BandColumns → Row → Bool
+heldUnder conditions c new = heldBy c new (valueIn conditions new)
+
+-- the refusals of a Set of a row that is there: 2 "out of range: a field exceeds its range" ("an unknown mask bit or more than 1,024
+-- expression bytes gets 2"), 3 "not tokens" and 4 "too long" ("the one met first from the left"), 8 "held: an unlock under a TRUE expression"
+abbrev pub rowRefusals : List Bool → BandColumns → List ℕ → Row → List Refusal
+rowRefusals conditions c bytes row =
+    when 2 (not (bandColumnsFit c) || ltb 1024 (length bytes))
+    ∷ when 3 (eqb (tokensAnswer c bytes) 3)
+    ∷ when 4 (eqb (tokensAnswer c bytes) 4)
+    ∷ when 8 (heldUnder conditions c (formedFrom c bytes row))
+    ∷ []
 
 -- "transfer (0 read or 1 write, ..)"
 abbrev pub sideOf : ℕ → Side
 sideOf direction = cond (eqb direction 0) Read Write
 
--- 9 "locked: a transfer touches a locked block"
-abbrev pub locked : Drive → Event → Bool
-locked d (reading s v) = false
-locked d (elapse n) = false
-locked d (reset t) = false
-locked d (sensorSet s c) = false
-locked d (bandSet b c bytes) = false
-locked d (geometry b start n) = false
-locked d (transfer w start n) = touchesOf (d .«band_count») (d .spans) (map (closedOn (sideOf w)) (d .rows)) start n
+-- 1 "no row: the band or sensor is not below its count"
+abbrev pub noRow : ℕ → ℕ → Refusal
+noRow count i = when 1 (not (isRow count i))
 
--- the rows of the table in their order, from 1 on; 10 and 11 are no answers to events
-abbrev pub refusals : Drive → Event → List Bool
-refusals d e =
-    noRow d e ∷ outOfRange d e ∷ notTokens d e ∷ tooLong d e ∷ global d e ∷ beyond d e ∷ overlaps d e ∷ held d e ∷ locked d e ∷ []
+abbrev pub refusals : Drive → Event → List Refusal
+refusals d (reading s v) = noRow (d .«sensor_count») s ∷ readingRefusals v
+refusals d (elapse n) = when 2 (ltb 4294967295 n) ∷ []
+refusals d (reset t) = when 2 (ltb 2 t) ∷ []
+refusals d (sensorSet s c) = noRow (d .«sensor_count») s ∷ setRefusals c
+refusals d (bandSet b c bytes) = noRow (d .«band_count») b ∷ rowRefusals (conditionsOf d) c bytes (rowAt d b)
+refusals d (geometry b start n) = placeRefusals (d .capacity) (d .«band_count») (d .spans) b start n
+refusals d (transfer w start n) =
+    when 2 (ltb 1 w) ∷ transferRefusals (d .capacity) (d .«band_count») (d .spans) (map (closedOn (sideOf w)) (d .rows)) start n
 
--- "The lowest number that applies is given"; "done: nothing below applies"
-abbrev pub lowest : ℕ → List Bool → ℕ
-lowest n [] = 0
-lowest n (applies ∷ l) = cond applies n (lowest (suc n) l)
-
+-- "0 done: nothing below applies"
 unfoldable pub answerOf : Drive → Event → ℕ
-answerOf d e = lowest 1 (refusals d e)
+answerOf d e = firstOf (refusals d e)
+
+-- "The lowest number that applies is given": so it is with every event of document 01, on every drive
+abbrev pub LowestGiven : Type 0
+LowestGiven = (d : Drive) (e : Event) → LowestOf (refusals d e) (answerOf d e)
 
 -- ---- what an event that is answered 0 does before the bands settle
 
@@ -181,13 +146,7 @@ stepOf d e = cond (eqb (answerOf d e) 0) (settleOf (actOf d e)) d
 
 -- "the answer carries their count"; "stops (0 unless elapse)"
 abbrev pub elapsedStops : Drive → Event → ℕ
-elapsedStops d (reading s v) = 0
-elapsedStops d (elapse n) = stops tickOf stopNext n d
-elapsedStops d (reset t) = 0
-elapsedStops d (sensorSet s c) = 0
-elapsedStops d (bandSet b c bytes) = 0
-elapsedStops d (geometry b start n) = 0
-elapsedStops d (transfer w start n) = 0
+elapsedStops d e = ifTicking (shapeOf e) (λ n. stops tickOf stopNext n d) 0
 
 unfoldable pub stopsOf : Drive → Event → ℕ
 stopsOf d e = cond (eqb (answerOf d e) 0) (elapsedStops d e) 0

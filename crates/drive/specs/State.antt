@@ -4,7 +4,7 @@ use mathlib.Core.Path.{_≡_}
 use mathlib.Core.Bool.{Bool, cond, _&&_}
 use mathlib.Core.List.{List, map}
 use lib.Dec.{leb}
-use lib.ListN.{replicate, getD}
+use lib.ListN.{length, replicate, getD}
 use Rattle.base.specs.Lists.{any}
 use Rattle.answer.specs.Numbers.{numberOf}
 use Rattle.sensor.specs.declared.single.Sensor.{Sensor}
@@ -87,17 +87,24 @@ valueAt d band = valueIn (conditionsOf d) (rowAt d band)
 unfoldable pub settleOf : Drive → Drive
 settleOf d = withRows (map (settleRow (conditionsOf d)) (d .rows)) d
 
--- "One tick takes 1 from every running timer; those that reach 0 settle together." In three parts: levels sampled inside the drive (there
--- are none), the timers' fall, and then the bands settle.
-abbrev pub sampleOf : Drive → Drive
-sampleOf d = d
-
+-- "One tick takes 1 from every running timer; those that reach 0 settle together."
 abbrev pub fallOf : Drive → Drive
 fallOf d = withSensors (map sensorTick (d .sensors)) d
 
+-- the timers fall, and then the bands settle
 unfoldable pub tickOf : Drive → Drive
-tickOf d = settleOf (fallOf (sampleOf d))
+tickOf d = settleOf (fallOf d)
 
 -- "Its stops are the ticks at which some timer ends": the tick to come is one
 unfoldable pub stopNext : Drive → Bool
 stopNext d = any endsNext (d .sensors)
+
+-- What no event changes: the capacity and the counts, and how many rows, spans and sensors there are. The first drive has those of the
+-- second.
+pub record SameHeader (d e : Drive) : Type 0 where
+  pub capacity : d .capacity ≡ e .capacity
+  pub «band_count» : d .«band_count» ≡ e .«band_count»
+  pub «sensor_count» : d .«sensor_count» ≡ e .«sensor_count»
+  pub rows : length (d .rows) ≡ length (e .rows)
+  pub spans : length (d .spans) ≡ length (e .spans)
+  pub sensors : length (d .sensors) ≡ length (e .sensors)

@@ -6,8 +6,9 @@ use mathlib.Core.Bool.{Bool, true, false, cond}
 use mathlib.Core.List.{List}
 use borrow.Author.Tests.{le-ltb, ltb-false, ne-eqb}
 use lib.Dec.{eqb, ltb}
+use Rattle.base.specs.Rows.{isRow}
 use Rattle.base.proofs.Rows.{is-row}
-use Rattle.base.proofs.Cases.{cond-true, cond-false, or-no}
+use Rattle.base.proofs.Cases.{cond-true, cond-false, behind, or-no, neither}
 use Rattle.answer.specs.declared.Answer.{Answer}
 use Rattle.answer.specs.declared.Answer.the-variants.{Done, Overlap}
 use Rattle.answer.specs.Numbers.{numberOf}
@@ -15,7 +16,6 @@ use Rattle.geometry.specs.declared.Span.{Span}
 use Rattle.geometry.specs.declared.Placed.{Placed}
 use Rattle.geometry.specs.Blocks.{bandSpans, overlapping}
 use Rattle.geometry.specs.Events.{pastEnd, placed, placeAnswer, placeOf, Places, Allowed}
-use Rattle.geometry.proofs.Ranges.{neither}
 
 -- the end of the drive
 
@@ -56,7 +56,7 @@ module _ (capacity bands : ℕ) (spans : List Span) (band start length : ℕ) wh
   placing a =
       let n : band ≡ 0 → ⊥ = λ e. omega (arith, a .local) in
       sym
-      (cond-true _ _ _ _ (is-row _ _ (a .known) (a .row))
+      (behind (isRow bands band) _ _ 1 (is-row _ _ (a .known) (a .row))
       (cond-false _ _ _ _ (ne-eqb _ _ n)
       (cond-false _ _ _ _ (up-to-end capacity start length (a .begins) (a .ends)) refl)))
 

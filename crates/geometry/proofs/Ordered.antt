@@ -5,10 +5,10 @@ use native.Mathlib.Omega.{arith}
 use mathlib.Core.Bool.{Bool, true, false}
 use mathlib.Core.List.{List, [], _∷_}
 use lib.ListN.{length, getD, take, drop}
-use Rattle.base.proofs.Cases.{or-no}
+use Rattle.base.proofs.Cases.{or-no, neither}
 use Rattle.geometry.specs.declared.Span.{Span}
 use Rattle.geometry.specs.Blocks.{covers, meetsAny, overlapping, bandSpans, spanOf}
-use Rattle.geometry.proofs.Ranges.{neither, refuted}
+use Rattle.geometry.proofs.Ranges.{refuted}
 use Rattle.geometry.proofs.Covering.{covered}
 use Rattle.geometry.proofs.Scans.{tail-at, tail-end}
 use Rattle.geometry.proofs.Sharing.{no-block, Met, met-there}

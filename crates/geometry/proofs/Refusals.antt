@@ -2,10 +2,10 @@
 use mathlib.Core.Path.{_≡_, refl, sym, _∙_}
 use Prim.Native.Nat.{ℕ, _-_, _≤_, _<_}
 use native.Mathlib.Omega.{arith}
-use mathlib.Core.Bool.{Bool, true, false, cond}
+use mathlib.Core.Bool.{Bool, true, false, not, cond}
 use mathlib.Core.List.{List}
 use mathlib.Core.Logic.{_↔_}
-use borrow.Author.Tests.{eqb-false}
+use borrow.Author.Tests.{eqb-false, not-false}
 use lib.Dec.{eqb}
 use Rattle.base.specs.Rows.{isRow}
 use Rattle.base.proofs.Cases.{cond-true, cond-false}
@@ -62,10 +62,10 @@ module _ (capacity bands : ℕ) (spans : List Span) (band start length : ℕ) wh
       → Allowed capacity bands band start length × (cond (overlapping (bandSpans bands (placed spans band start length))) 7 0 ≡ r)
   unfolding placeAnswer
   passed r e x y z =
-      let a = not-second (isRow bands band) _ 1 r e x in
+      let a = not-first (not (isRow bands band)) 1 _ r e x in
       let g = not-first (eqb band 0) 5 _ r (a .1) y in
       let v = not-first (pastEnd capacity start length) 6 _ r (g .1) z in
-      let k : (band < bands) × (band < 16) = row-is _ _ (a .0) in
+      let k : (band < bands) × (band < 16) = row-is _ _ (not-false (isRow bands band) (a .0)) in
       let b : (start ≤ capacity) × (length ≤ capacity - start) = end-up-to _ _ _ (v .0) in (
         record { known = k .0; row = k .1; local = omega (arith, eqb-false band 0 (g .0)); begins = b .0; ends = b .1 },
         v .1,

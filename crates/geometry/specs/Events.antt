@@ -1,10 +1,11 @@
 -- Document 01, the table of refusals and 'Geometry and transfers': a geometry's and a transfer's answer.
 use mathlib.Core.Path.{_≡_}
 use Prim.Native.Nat.{ℕ, _+_, _-_, _≤_, _<_}
-use mathlib.Core.Bool.{Bool, cond, _||_}
-use mathlib.Core.List.{List}
+use mathlib.Core.Bool.{Bool, not, cond, _||_}
+use mathlib.Core.List.{List, [], _∷_}
 use lib.Dec.{eqb, ltb}
 use lib.ListN.{set}
+use Rattle.base.specs.Refusals.{Refusal, when, firstOf}
 use Rattle.base.specs.Rows.{isRow}
 use Rattle.answer.specs.Numbers.{numberOf}
 use Rattle.geometry.specs.declared.Span.{Span}
@@ -19,23 +20,31 @@ noSpan = record { start = 0; length = 0 }
 abbrev pub pastEnd : ℕ → ℕ → ℕ → Bool
 pastEnd capacity start count = ltb capacity start || ltb (capacity - start) count
 
--- a transfer whose direction is in range: 6, 9 or done
+-- the refusals of a transfer whose direction is in range, with the bands that are closed in it: 6 "past end", and 9 "locked: a transfer
+-- touches a locked block"
+abbrev pub transferRefusals : ℕ → ℕ → List Span → List Bool → ℕ → ℕ → List Refusal
+transferRefusals capacity bands spans closed start count =
+    when 6 (pastEnd capacity start count) ∷ when 9 (touchesOf bands spans closed start count) ∷ []
+
 unfoldable pub transferAnswer : ℕ → ℕ → List Span → List Bool → ℕ → ℕ → ℕ
-transferAnswer capacity bands spans closed start count =
-    cond (pastEnd capacity start count) 6 (cond (touchesOf bands spans closed start count) 9 0)
+transferAnswer capacity bands spans closed start count = firstOf (transferRefusals capacity bands spans closed start count)
 
 -- the spans with one band's in a new place
 abbrev pub placed : List Span → ℕ → ℕ → ℕ → List Span
 placed spans band start length = set spans band (record { start = start; length = length })
 
--- a geometry: 1, 5, 6, 7 or done. Overlap is judged with the band in its new place.
+-- the refusals of a geometry: 1 "no row", 5 "global: geometry for band 0", 6 "past end", and 7 "overlap: two non-empty bands would share a
+-- block", judged with the band in its new place
+abbrev pub placeRefusals : ℕ → ℕ → List Span → ℕ → ℕ → ℕ → List Refusal
+placeRefusals capacity bands spans band start length =
+    when 1 (not (isRow bands band))
+    ∷ when 5 (eqb band 0)
+    ∷ when 6 (pastEnd capacity start length)
+    ∷ when 7 (overlapping (bandSpans bands (placed spans band start length)))
+    ∷ []
+
 unfoldable pub placeAnswer : ℕ → ℕ → List Span → ℕ → ℕ → ℕ → ℕ
-placeAnswer capacity bands spans band start length =
-    cond (isRow bands band)
-    (cond (eqb band 0) 5
-    (cond (pastEnd capacity start length) 6
-    (cond (overlapping (bandSpans bands (placed spans band start length))) 7 0)))
-    1
+placeAnswer capacity bands spans band start length = firstOf (placeRefusals capacity bands spans band start length)
 
 -- "Any refusal leaves the drive untouched."
 unfoldable pub placeOf : ℕ → ℕ → List Span → ℕ → ℕ → ℕ → List Span

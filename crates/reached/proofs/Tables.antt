@@ -1,45 +1,21 @@
 -- Laws of a drive's arrays: fresh, all elements changed, and one that the header counts changed.
 use mathlib.Core.Path.{_≡_, refl, sym, ap, _∙_, subst}
-use Prim.Native.Nat.{ℕ, zero, suc, _<_}
+use Prim.Native.Nat.{ℕ, _<_}
 use native.Mathlib.Omega.{arith}
-use mathlib.Core.List.{List, [], _∷_, map}
+use mathlib.Core.List.{List, map}
 use lib.ListN.{length, getD, set, replicate, length-map, length-replicate, List·getD-map}
 use Rattle.base.specs.Rows.{modify}
-use Rattle.base.proofs.Rows.{modify-set}
+use Rattle.base.proofs.Lists.{getD-same}
+use Rattle.base.proofs.Rows.{modify-set, length-modify, modify-other, modify-keeps}
 use Rattle.reached.specs.Reached.{Table}
 
 module _ {A : Type 0} where
-  length-modify : (f : A → A) (i : ℕ) (l : List A) → length (modify f i l) ≡ length l
-  length-modify f i [] = refl
-  length-modify f zero (x ∷ l) = refl
-  length-modify f (suc i) (x ∷ l) = ap suc (length-modify f i l)
-
-  modify-other : (f : A → A) (l : List A) (i j : ℕ) (d : A) → i < j → getD (modify f i l) j d ≡ getD l j d
-  modify-other f [] i j d h = refl
-  modify-other f (x ∷ l) i zero d h = absurd (omega arith)
-  modify-other f (x ∷ l) zero (suc j) d h = refl
-  modify-other f (x ∷ l) (suc i) (suc j) d h = modify-other f l i j d (omega arith)
-
-  modify-keeps : (P : A → Type 0) (f : A → A) → ((x : A) → P x → P (f x)) → (l : List A) (i j : ℕ) (d : A) → P (getD l j d)
-      → P (getD (modify f i l) j d)
-  modify-keeps P f k [] i j d q = q
-  modify-keeps P f k (x ∷ l) zero zero d q = k x q
-  modify-keeps P f k (x ∷ l) zero (suc j) d q = q
-  modify-keeps P f k (x ∷ l) (suc i) zero d q = q
-  modify-keeps P f k (x ∷ l) (suc i) (suc j) d q = modify-keeps P f k l i j d q
-
-  -- an element of a list that repeats one, also past its end
-  repeated : (n i : ℕ) (x : A) → getD (replicate n x) i x ≡ x
-  repeated zero i x = refl
-  repeated (suc n) zero x = refl
-  repeated (suc n) (suc i) x = repeated n i x
-
   module _ (Good : A → Type 0) (fresh : A) where
     pub fresh-table : (count : ℕ) → Good fresh → Table Good fresh count (replicate 16 fresh)
     fresh-table count g = record {
       sixteen = length-replicate 16 fresh;
-      unused = λ i h. repeated 16 i fresh;
-      each = λ i. subst Good (sym (repeated 16 i fresh)) g;
+      unused = λ i h. getD-same 16 i fresh;
+      each = λ i. subst Good (sym (getD-same 16 i fresh)) g;
     }
 
     module _ (f : A → A) (keeps : (x : A) → Good x → Good (f x)) (count : ℕ) (l : List A) (t : Table Good fresh count l) where
@@ -57,8 +33,8 @@ module _ {A : Type 0} where
       pub modify-table : (i : ℕ) → i < count → Table Good fresh count (modify f i l)
       modify-table i h = record {
         sixteen = length-modify f i l ∙ t .sixteen;
-        unused = λ j k. modify-other f l i j fresh (omega arith) ∙ t .unused j k;
-        each = λ j. modify-keeps Good f keeps l i j fresh (t .each j);
+        unused = λ j k. modify-other f fresh l i j (λ e. omega (arith, h, k, e)) ∙ t .unused j k;
+        each = λ j. modify-keeps Good f keeps fresh l i j (t .each j);
       }
 
     -- one element stored

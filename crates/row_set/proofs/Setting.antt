@@ -2,14 +2,14 @@
 use mathlib.Core.Path.{_≡_, refl, sym, ap, ap₂, _∙_}
 use Prim.Native.Nat.{ℕ}
 use native.Mathlib.Omega.{arith}
-use mathlib.Core.Bool.{Bool, true, false, not, cond, _||_, true≢false}
+use mathlib.Core.Bool.{Bool, true, false, not, cond, _||_}
 use mathlib.Core.List.{List, []}
 use mathlib.Core.Logic.{_≢_, inl, ⊎-elim}
 use lib.Dec.{eqb, ltb}
 use lib.ListN.{length}
 use borrow.Author.Tests.{eq-eqb, ne-eqb, eqb-false}
 use Rattle.base.specs.Columns.{named}
-use Rattle.base.proofs.Cases.{cond-true, cond-false}
+use Rattle.base.proofs.Cases.{cond-true, cond-false, neither}
 use Rattle.answer.specs.declared.Answer.{Answer}
 use Rattle.answer.specs.declared.Answer.the-variants.{Done, OutOfRange, Held}
 use Rattle.answer.specs.Numbers.{numberOf}
@@ -23,9 +23,10 @@ use Rattle.band.specs.declared.BandColumns.{BandColumns}
 use Rattle.band.specs.Rows.{valueIn}
 use Rattle.band.specs.Sets.{formedRow, heldBy}
 use Rattle.band.specs.Sets.{columnsFit as bandColumnsFit}
-use Rattle.drive.specs.Events.{tokensAnswer, formedFrom}
+use Rattle.drive.specs.Events.{tokensAnswer, formedFrom, heldUnder}
 use Rattle.row_set.specs.declared.RowAnswer.{RowAnswer}
-use Rattle.row_set.specs.Forming.{heldUnder, rowAnswer, SetsRow, TokensFor, Forms}
+use Rattle.row_set.specs.Forming.{rowAnswer, SetsRow}
+use Rattle.row_set.specs.Parts.{TokensFor, Forms}
 
 pub columns-unfit : (c : BandColumns) (bytes : List ℕ) (t : Bool) → t ≡ bandColumnsFit c → t ≡ false → true ≡ (not (bandColumnsFit c) || ltb 1024 (length bytes))
 columns-unfit c bytes t p e = sym (ap (λ (x : Bool). not x || ltb 1024 (length bytes)) (sym p ∙ e))
@@ -88,10 +89,6 @@ formed-from c bytes x row e =
 known : (b : Bool) (n : ℕ) → DoneOrBroken n → DoneOrBroken (cond b n 0)
 known true n k = k
 known false n k = inl refl
-
-neither : (a b : Bool) → (a || b) ≡ false → (a ≡ false) × (b ≡ false)
-neither true b e = absurd (true≢false e)
-neither false b e = (refl, e)
 
 module _ (cs : List Bool) (c : BandColumns) (bytes : List ℕ) (row : Row) (u : Bool) (pu : u ≡ (not (bandColumnsFit c) || ltb 1024 (length bytes))) where
   -- a refusal, by its number

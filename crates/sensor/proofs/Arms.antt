@@ -2,7 +2,7 @@
 use mathlib.Core.Path.{_≡_, refl, sym, ap, _∙_}
 use Prim.Native.Nat.{ℕ, _-_, _<_, _≤_}
 use native.Mathlib.Omega.{arith}
-use mathlib.Core.Bool.{Bool, true, false, Bool·beq, false≢true}
+use mathlib.Core.Bool.{Bool, true, false, not, cond, Bool·beq, false≢true}
 use lib.Dec.{ltb, eqb}
 use borrow.Author.Tests.{le-ltb, eq-eqb, ne-eqb}
 use Rattle.base.proofs.Cases.{cond-true, cond-false}
@@ -15,7 +15,7 @@ use Rattle.phases.specs.Phases.{moveOf, levelAfter}
 use Rattle.sensor.specs.Single.{withLevel, movedBy, entering, stepOf, turnCause, turnedTo, judgeOf, readingOf, readingAnswer, quietOf, withTimer, loweredBy}
 use Rattle.sensor.specs.Level.{greatestReading}
 use Rattle.sensor.specs.declared.columns.SensorColumns.{SensorColumns}
-use Rattle.sensor.specs.Columns.{columnsFit, storedOf, switchedOf, setOf}
+use Rattle.sensor.specs.Columns.{columnsFit, setAnswer, storedOf, switchedOf, setOf}
 
 -- a step: the level, and then the move
 
@@ -63,6 +63,12 @@ pub lowered-out : (k : ℕ) (s r : Sensor) → s .timer < k → r ≡ withTimer 
 lowered-out k s r h q = let e : 0 ≡ s .timer - k = omega arith in q ∙ ap (λ (t : ℕ). withTimer t s) e
 
 -- a Set: stored, and then enabled or disabled
+
+pub set-granted : (c : SensorColumns) (t : Bool) → t ≡ columnsFit c → t ≡ true → 0 ≡ setAnswer c
+set-granted c t p e = sym (ap (λ (x : Bool). cond (not x) 2 0) (sym p ∙ e))
+
+pub set-refused : (c : SensorColumns) (t : Bool) → t ≡ columnsFit c → t ≡ false → 2 ≡ setAnswer c
+set-refused c t p e = sym (ap (λ (x : Bool). cond (not x) 2 0) (sym p ∙ e))
 
 pub set-done : (c : SensorColumns) (s m r : Sensor) (t : Bool) → t ≡ columnsFit c → t ≡ true → m ≡ storedOf c s → r ≡ switchedOf c m
     → r ≡ setOf c s

@@ -5,3 +5,5 @@ pub mod Ticks
 pub mod Soundness
 pub mod Levels
 pub mod Lag
+pub mod Bounds
+pub mod Keeping

@@ -1,8 +1,10 @@
 -- Document 01, 'Sensors': a Set of a sensor's columns.
 use Prim.Native.Nat.{ℕ}
-use mathlib.Core.Bool.{Bool, cond, _&&_}
+use mathlib.Core.Bool.{Bool, not, cond, _&&_}
+use mathlib.Core.List.{List, [], _∷_}
 use lib.Dec.{eqb, ltb}
 use Rattle.base.specs.Columns.{named, within}
+use Rattle.base.specs.Refusals.{Refusal, when, firstOf}
 use Rattle.sensor.specs.declared.single.Sensor.{Sensor}
 use Rattle.sensor.specs.declared.columns.SensorColumns.{SensorColumns}
 use Rattle.sensor.specs.Single.{enableOf, disableOf}
@@ -27,9 +29,12 @@ columnsFit c =
     && (within greatestFraction (named 32 m) (c .«off_fraction»)
     && within greatestNumber (named 64 m) (c .«off_timeout»)))))))
 
--- "out of range: a field exceeds its range"; "an unknown mask bit .. gets 2"
+-- 2 "out of range: a field exceeds its range"; "an unknown mask bit .. gets 2": the refusals of a Set of a sensor that is there
+abbrev pub setRefusals : SensorColumns → List Refusal
+setRefusals c = when 2 (not (columnsFit c)) ∷ []
+
 abbrev pub setAnswer : SensorColumns → ℕ
-setAnswer c = cond (columnsFit c) 0 2
+setAnswer c = firstOf (setRefusals c)
 
 -- the named columns stored. "A running timer ignores a changed timeout.", and the level waits for the next reading.
 unfoldable pub storedOf : SensorColumns → Sensor → Sensor

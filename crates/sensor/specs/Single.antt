@@ -3,7 +3,9 @@
 use Prim.Native.Nat.{ℕ, _-_, min}
 use mathlib.Core.Path.{_≡_}
 use mathlib.Core.Bool.{Bool, false, cond, Bool·beq}
+use mathlib.Core.List.{List, [], _∷_}
 use lib.Dec.{eqb, ltb}
+use Rattle.base.specs.Refusals.{Refusal, when, firstOf}
 use Rattle.answer.specs.Numbers.{numberOf}
 use Rattle.phases.specs.declared.Phase.{Phase}
 use Rattle.phases.specs.declared.Phase.the-variants.{SS0, ST0, SS1, ST1, SS2}
@@ -103,9 +105,12 @@ turnCause l s =
 unfoldable pub turnedTo : Bool → Sensor → Sensor
 turnedTo l s = cond (Bool·beq l (s .level)) s (stepOf (turnCause l s) s)
 
--- A reading: 2 where it exceeds its range, and then the sensor is as it was.
+-- 2 "out of range: a field exceeds its range": the refusals of a reading of a sensor that is there
+abbrev pub readingRefusals : ℕ → List Refusal
+readingRefusals v = when 2 (ltb greatestReading v) ∷ []
+
 abbrev pub readingAnswer : ℕ → ℕ
-readingAnswer v = cond (ltb greatestReading v) 2 0
+readingAnswer v = firstOf (readingRefusals v)
 
 unfoldable pub readingOf : ℕ → Sensor → Sensor
 readingOf v s = cond (ltb greatestReading v) s (turnedTo (judgeOf v s) s)

@@ -5,7 +5,7 @@ use mathlib.Core.Bool.{Bool, true, false}
 use Rattle.phases.specs.declared.Phase.{Phase}
 use Rattle.phases.specs.declared.Phase.the-variants.{SS0, ST0, SS1, ST1, SS2}
 use Rattle.sensor.specs.declared.single.Sensor.{Sensor}
-use Rattle.sensor.specs.Columns.{greatestFraction}
+use Rattle.sensor.specs.Columns.{greatestNumber, greatestFraction}
 
 -- a timer runs exactly while the sensor waits
 abbrev pub TimerAgrees : Phase → ℕ → Type 0
@@ -37,3 +37,9 @@ pub record Sound (s : Sensor) : Type 0 where
   pub condition : ConditionAgrees (s .phase) (s .condition)
   pub «on_fraction» : s .«on_fraction» ≤ greatestFraction
   pub «off_fraction» : s .«off_fraction» ≤ greatestFraction
+
+-- "Thresholds and timeouts are 0 to 4,294,967,295": so no timer exceeds that either
+pub record Timed (s : Sensor) : Type 0 where
+  pub on : s .«on_timeout» ≤ greatestNumber
+  pub off : s .«off_timeout» ≤ greatestNumber
+  pub timer : s .timer ≤ greatestNumber

@@ -15,6 +15,7 @@ use mir.Val.{Fits}
 use borrow.Author.Tests.{le-leb, lt-leb, leb-true}
 use Rattle.base.specs.Spliced.{spliced}
 use Rattle.base.proofs.Spliced.{splice-twice, set-splice}
+use Rattle.base.proofs.Cases.{and-left, and-right}
 use Rattle.expression.specs.declared.Part.{Part}
 use Rattle.expression.specs.declared.Part.the-variants.{Reference, Operator}
 use Rattle.token_reader.specs.Format.{widthOf}
@@ -49,14 +50,6 @@ module _ (codes : List ℕ) (i : ℕ) (f : Fitting codes i) where
   pub fit-done : length codes ≤ i → true ≡ codesFit codes
   unfolding codesFit
   fit-done h = rw (f .same, none-left codes i h)
-
-pub and-left : (a b : Bool) → (a && b) ≡ true → a ≡ true
-and-left true b h = refl
-and-left false b h = h
-
-pub and-right : (a b : Bool) → (a && b) ≡ true → b ≡ true
-and-right true b h = h
-and-right false b h = let z : _≡_ {A = ℕ} 0 1 = cc in absurd (omega arith)
 
 -- each number of a list that fits
 pub fits-at : (codes : List ℕ) (i : ℕ) → codesFit codes ≡ true → i < length codes → getD codes i 0 ≤ 4294967298

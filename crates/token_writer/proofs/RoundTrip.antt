@@ -9,6 +9,7 @@ use lib.Dec.{eqb, leb, ltb}
 use lib.ListN.{length, getD, drop, length-append}
 use lib.Seq.{drop-cons}
 use borrow.Author.Tests.{eqb-true, lt-ltb, le-ltb, le-leb}
+use Rattle.base.proofs.Cases.{and-left, and-right}
 use Rattle.expression.specs.declared.Part.{Part}
 use Rattle.expression.specs.declared.Part.the-variants.{Reference, Operator}
 use Rattle.expression.specs.declared.Element.{Element}
@@ -31,7 +32,7 @@ use Rattle.token_reader.specs.Read.{Outcome, elements, refusal, before, andThen
 use Rattle.token_reader.proofs.Listing.{width-most, few}
 use Rattle.token_reader.proofs.Fits.{by-arm, not-broken, not-refused, bytes-drop}
 use Rattle.token_writer.specs.Write.{partOf, codeOf, elementsOf, codesOf, codesFit, partBytes, bodyOf, bytesOf, neededFor}
-use Rattle.token_writer.proofs.Passes.{and-left, and-right, width-is}
+use Rattle.token_writer.proofs.Passes.{width-is}
 
 -- the bytes needed
 

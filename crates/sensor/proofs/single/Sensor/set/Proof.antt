@@ -1,4 +1,4 @@
-use Rattle.sensor.proofs.Arms.{set-done}
+use Rattle.sensor.proofs.Arms.{set-granted, set-refused, set-done}
 use Rattle.sensor.specs.Columns.{setOf}
 use mathlib.Core.Path.{sym, _∙_}
 use Rattle.base.proofs.Cases.{calls}
@@ -16,11 +16,11 @@ switch-requires : tie.Need-switch-requires
 switch-requires c κs = search needs
 
 returns : tie.Need-returns
-returns c = search (set-done, calls)
+returns c = search (set-granted, set-done, needs)
 
 returns-2 : tie.Need-returns-2
 unfolding setOf
-returns-2 c = search calls
+returns-2 c = search (set-refused, calls)
 
 pub set-spec : {M : Type 1} → statement M
 set-spec = tie.close (tie.spec fit-requires store-requires switch-requires returns returns-2)
