@@ -6,7 +6,7 @@ use native.Mathlib.Omega.{arith}
 use mathlib.Core.Bool.{Bool, true, false, cond, _||_, false≢true}
 use mathlib.Core.List.{List, [], _∷_, map}
 use lib.ListN.{length, getD, set, replicate, length-map}
-use Rattle.base.specs.Lists.{oneIf}
+use Rattle.base.specs.Lists.{oneIf, count}
 
 -- f at the first i elements, and the rest as it was
 module _ {A : Type 0} (f : A → A) where
@@ -111,3 +111,9 @@ pub getD-same : {A : Type 0} (n i : ℕ) (a : A) → getD (replicate n a) i a �
 getD-same zero i a = refl
 getD-same (suc n) zero a = refl
 getD-same (suc n) (suc i) a = getD-same n i a
+
+-- no more elements pass a test than there are
+pub few-counted : {A : Type 0} (f : A → Bool) (l : List A) → count f l ≤ length l
+unfolding count
+few-counted f [] = omega arith
+few-counted f (x ∷ l) = omega (arith, few-counted f l, oneIf-le (f x))

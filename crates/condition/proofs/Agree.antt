@@ -1,7 +1,7 @@
 -- Two drives that agree on some bands and on the sensors that these name, and which events keep that.
 use Prim.Native.Nat.{ℕ, zero, suc}
 use mathlib.Core.Path.{_≡_, refl, sym, ap, ap₂, _∙_}
-use mathlib.Core.Bool.{Bool, true, false, cond, not, _&&_, false≢true}
+use mathlib.Core.Bool.{Bool, true, false, cond, _&&_, false≢true}
 use mathlib.Core.List.{List, [], _∷_, map}
 use lib.Dec.{eqb, ltb}
 use lib.ListN.{length, getD, length-map}
@@ -9,15 +9,16 @@ use lib.Seq.{take-at}
 use borrow.Author.Tests.{ltb-true, ltb-false, eq-eqb}
 use Rattle.base.specs.Columns.{named}
 use Rattle.base.specs.Lists.{any}
-use Rattle.base.specs.Rows.{isRow, modify}
+use Rattle.base.specs.Refusals.{firstOf}
+use Rattle.base.specs.Rows.{modify}
 use Rattle.base.specs.Ticks.{ticks}
 use Rattle.base.proofs.Cases.{and-yes}
 use Rattle.base.proofs.Lists.{getD-map}
 use Rattle.base.proofs.Rows.{apart, modify-agree, modify-other, modify-keeps, length-modify}
 use Rattle.sensor.specs.declared.single.Sensor.{Sensor}
-use Rattle.sensor.specs.Single.{freshSensor, readingOf, powerCycleOf}
+use Rattle.sensor.specs.Single.{freshSensor, readingRefusals, readingOf, powerCycleOf}
 use Rattle.sensor.specs.Single.{tickOf as sensorTick}
-use Rattle.sensor.specs.Columns.{setOf}
+use Rattle.sensor.specs.Columns.{setRefusals, setOf}
 use Rattle.sensor.proofs.Motion.{fresh-tick, fresh-power-cycle}
 use Rattle.sensors.specs.Sixteen.{conditionsBelow}
 use Rattle.sensors.proofs.Gather.{condition-below, condition-past}
@@ -33,7 +34,7 @@ use Rattle.band.specs.Sets.{formedRow, heldBy}
 use Rattle.band.proofs.Settling.{settle-again, fresh-settles, fresh-reset}
 use Rattle.drive.specs.declared.Drive.{Drive}
 use Rattle.drive.specs.State.{withRows, withSensors, conditionsOf, rowAt, valueAt, settleOf, tickOf}
-use Rattle.drive.specs.Events.{Event, reading, elapse, reset, sensorSet, bandSet, geometry, transfer, outOfRange, notTokens, tooLong, held, formedFrom, lowest, answerOf, resetOf, actOf, stepOf}
+use Rattle.drive.specs.Events.{Event, reading, elapse, reset, sensorSet, bandSet, geometry, transfer, noRow, rowRefusalsIf, heldUnder, formedFrom, answerOf, resetOf, actOf, stepOf}
 use Rattle.condition.specs.History.{granted, ownSet}
 use Rattle.condition.specs.Compared.{mentionedIn, refersIn, stays}
 
@@ -248,7 +249,7 @@ module _ (B N : ℕ → Bool) where
   own-fit b c bytes t w r u = w b t r (sym (and-yes (eqb b b) (refersIn r c bytes) true (eq-eqb b b refl) (sym u)))
 
   held-same : {d e : Drive} (b : ℕ) (c : BandColumns) (bytes : List ℕ) → B b ≡ true → Fit (bandSet b c bytes) → Same B N d e
-      → held d (bandSet b c bytes) ≡ held e (bandSet b c bytes)
+      → heldUnder (conditionsOf d) c (formedFrom c bytes (rowAt d b)) ≡ heldUnder (conditionsOf e) c (formedFrom c bytes (rowAt e b))
   held-same {d} {e} b c bytes t w p =
       let f = formedFrom c bytes in
       ap (λ (x : Row). heldBy c (f x) (valueIn (conditionsOf d) (f x))) (p .band b t)
@@ -259,18 +260,12 @@ module _ (B N : ℕ → Bool) where
   -- an event that stays gets the same answer
   pub answer-same : {d e : Drive} (x : Event) → stays B N x ≡ true → Fit x → Same B N d e → answerOf d x ≡ answerOf e x
   unfolding answerOf stays
-  answer-same {d} {e} (reading s v) t w p =
-      ap (λ (n : ℕ). lowest 1 (not (isRow n s) ∷ outOfRange e (reading s v) ∷ false ∷ false ∷ false ∷ false ∷ false ∷ false ∷ false ∷ []))
-      (p .sensorCount)
+  answer-same (reading s v) t w p = ap (λ (n : ℕ). firstOf (noRow n s ∷ readingRefusals v)) (p .sensorCount)
   answer-same (elapse n) t w p = refl
   answer-same (reset n) t w p = refl
-  answer-same {d} {e} (sensorSet s c) t w p =
-      ap (λ (n : ℕ). lowest 1 (not (isRow n s) ∷ outOfRange e (sensorSet s c) ∷ false ∷ false ∷ false ∷ false ∷ false ∷ false ∷ false ∷ []))
-      (p .sensorCount)
+  answer-same (sensorSet s c) t w p = ap (λ (n : ℕ). firstOf (noRow n s ∷ setRefusals c)) (p .sensorCount)
   answer-same {d} {e} (bandSet b c bytes) t w p =
-      let x = bandSet b c bytes in
-      ap₂ (λ (n : ℕ) (h : Bool). lowest 1 (not (isRow n b) ∷ outOfRange e x ∷ notTokens e x ∷ tooLong e x ∷ false ∷ false ∷ false ∷ h ∷ false ∷ []))
-      (p .bandCount) (held-same b c bytes t w p)
+      ap₂ (λ (n : ℕ) (h : Bool). firstOf (noRow n b ∷ rowRefusalsIf c bytes h)) (p .bandCount) (held-same b c bytes t w p)
   answer-same (geometry b start n) t w p = absurd (false≢true t)
   answer-same (transfer v start n) t w p = absurd (false≢true t)
 

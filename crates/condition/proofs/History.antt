@@ -6,14 +6,14 @@ use mathlib.Core.Bool.{Bool, true, false, not, cond, _&&_, _||_, false≢true, o
 use mathlib.Core.List.{List, [], _∷_}
 use native.Mathlib.Omega.{arith}
 use lib.Dec.{eqb, ltb}
-use lib.ListN.{length, getD, length-map}
+use lib.ListN.{length, getD}
 use borrow.Author.Tests.{eqb-true, eqb-false, leb-true, not-false}
 use Rattle.base.specs.Lists.{any}
 use Rattle.base.specs.Columns.{within}
 use Rattle.base.specs.Rows.{modify}
 use Rattle.base.specs.Ticks.{ticks}
 use Rattle.base.proofs.Cases.{and-left, and-right, neither}
-use Rattle.base.proofs.Rows.{modify-same, modify-other, length-modify}
+use Rattle.base.proofs.Rows.{modify-same, modify-other}
 use Rattle.band.specs.declared.Side.{Side}
 use Rattle.band.specs.declared.Side.the-variants.{Read, Write}
 use Rattle.band.specs.declared.Row.{Row}
@@ -22,7 +22,9 @@ use Rattle.band.specs.Rows.{freshRow, enabledOn, lockedOn, lockUnder, settleRow
 use Rattle.band.specs.Sets.{columnsFit, formedRow, lockedNamed, lockedValue, namesLocked}
 use Rattle.drive.specs.declared.Drive.{Drive}
 use Rattle.drive.specs.State.{freshDrive, conditionsOf, rowAt, valueAt, settleOf, fallOf, tickOf}
-use Rattle.drive.specs.Events.{Event, reading, elapse, reset, sensorSet, bandSet, geometry, transfer, refusals, formedFrom, lowest, answerOf, actOf, stepOf, runOf}
+use Rattle.drive.specs.Events.{Event, reading, elapse, reset, sensorSet, bandSet, geometry, transfer, formedFrom, answerOf, actOf, stepOf, runOf}
+use Rattle.drive.proofs.Answers.{granted-free}
+use Rattle.drive.proofs.Keeping.{step-keeps}
 use Rattle.condition.specs.History.{
   Moment,
   ended,
@@ -39,35 +41,6 @@ use Rattle.condition.specs.History.{
 use Rattle.condition.proofs.Flags.{flagAfter, after-append, Last, from-last, to-last}
 use Rattle.condition.proofs.Agree.{Settled, settle-at, reset-at, step-settled}
 use Rattle.condition.proofs.Isolation.{fresh-at, fresh-settled}
-
--- ---- no event changes the number of rows
-
-settle-long : (d : Drive) → length (settleOf d .rows) ≡ length (d .rows)
-unfolding settleOf
-settle-long d = length-map (d .rows) _
-
-ticks-long : (n : ℕ) (d : Drive) → length (ticks tickOf n d .rows) ≡ length (d .rows)
-unfolding ticks tickOf
-ticks-long zero d = refl
-ticks-long (suc n) d = ticks-long n (tickOf d) ∙ settle-long (fallOf d)
-
-act-long : (d : Drive) (x : Event) → length (actOf d x .rows) ≡ length (d .rows)
-unfolding actOf
-act-long d (reading s v) = refl
-act-long d (elapse n) = ticks-long n d
-act-long d (reset t) = length-map (d .rows) _
-act-long d (sensorSet s c) = refl
-act-long d (bandSet b c bytes) = length-modify _ b (d .rows)
-act-long d (geometry b start n) = refl
-act-long d (transfer w start n) = refl
-
-rows-long : (d : Drive) (x : Event) → length (stepOf d x .rows) ≡ length (d .rows)
-unfolding stepOf
-rows-long d x = go (granted d x)
-  where
-    go : (g : Bool) → length (cond g (settleOf (actOf d x)) d .rows) ≡ length (d .rows)
-    go true = settle-long (actOf d x) ∙ act-long d x
-    go false = refl
 
 -- ---- the side's Locked column along the moments
 
@@ -119,20 +92,12 @@ module _ (side : Side) (band : ℕ) where
   column true (suc zero) old t = sym (or-true old)
   column true (suc (suc n)) old t = absurd (omega (arith, leb-true (suc (suc n)) 1 t))
 
-  -- nothing granted is out of range
-  in-range : (l : List Bool) → eqb (lowest 1 l) 0 ≡ true → getD l 1 false ≡ false
-  in-range [] t = refl
-  in-range (p ∷ []) t = refl
-  in-range (true ∷ q ∷ l) t = absurd (false≢true t)
-  in-range (false ∷ true ∷ l) t = absurd (false≢true t)
-  in-range (false ∷ false ∷ l) t = refl
-
   -- a granted Set names a Locked as 0 or 1
   granted-fits : (d : Drive) (c : BandColumns) (bytes : List ℕ) (b : ℕ) → granted d (bandSet b c bytes) ≡ true
       → within 1 (lockedNamed side c) (lockedValue side c) ≡ true
-  unfolding answerOf columnsFit
+  unfolding columnsFit
   granted-fits d c bytes b t =
-      pick side (not-false (columnsFit c) (neither (not (columnsFit c)) (ltb 1024 (length bytes)) (in-range (refusals d (bandSet b c bytes)) t) .0))
+      pick side (not-false (columnsFit c) (neither (not (columnsFit c)) (ltb 1024 (length bytes)) (granted-free d (bandSet b c bytes) (eqb-true (answerOf d (bandSet b c bytes)) 0 t) 1) .0))
     where
       pick : (s : Side) → columnsFit c ≡ true → within 1 (lockedNamed s c) (lockedValue s c) ≡ true
       pick Read e = search (and-left, and-right)
@@ -211,7 +176,7 @@ module _ (side : Side) (band : ℕ) where
       after-append (unlocks side band) (locks side band) (flag d) (cond (granted d x) (tickMoments (lengthOf x) d) []) _
       ∙ ap (λ (l : Bool). along l (record { cause = ended x; before = d; after = stepOf d x } ∷ moments (stepOf d x) es)) (events-flag d x)
       ∙ ap (λ (l : Bool). along l (moments (stepOf d x) es)) (end-flag d x h z)
-      ∙ run-flag es (stepOf d x) (rw (rows-long d x) h) (step-settled band d x z)
+      ∙ run-flag es (stepOf d x) (rw (step-keeps d x .rows) h) (step-settled band d x z)
 
 -- ---- the rule
 

@@ -11,7 +11,7 @@ use Rattle.band.specs.Rows.{enabledOn, inSet}
 use Rattle.band.specs.Sets.{namesLocked}
 use Rattle.drive.specs.declared.Drive.{Drive}
 use Rattle.drive.specs.State.{rowAt, valueAt, tickOf}
-use Rattle.drive.specs.Events.{Event, reading, elapse, reset, sensorSet, bandSet, geometry, transfer, answerOf, stepOf}
+use Rattle.drive.specs.Events.{Event, shapeOf, ifTicking, ifResetting, ifSetting, answerOf, stepOf}
 
 -- ---- the moments of a list of events
 
@@ -32,13 +32,7 @@ granted d e = eqb (answerOf d e) 0
 
 -- "An elapse of n .. is n ticks"; no other event has any
 abbrev pub lengthOf : Event → ℕ
-lengthOf (reading s v) = 0
-lengthOf (elapse n) = n
-lengthOf (reset t) = 0
-lengthOf (sensorSet s c) = 0
-lengthOf (bandSet b c bytes) = 0
-lengthOf (geometry b start n) = 0
-lengthOf (transfer w start n) = 0
+lengthOf e = ifTicking (shapeOf e) (λ n. n) 0
 
 unfoldable pub tickMoments : ℕ → Drive → List Moment
 tickMoments zero d = []
@@ -63,22 +57,10 @@ grantedEnd passes m = byEvent (λ e. granted (m .before) e && passes e) (m .caus
 
 -- "The Sets in it are the band's own.": a Set of the band whose columns and expression bytes pass the test
 abbrev pub ownSet : ℕ → (BandColumns → List ℕ → Bool) → Event → Bool
-ownSet band passes (reading s v) = false
-ownSet band passes (elapse n) = false
-ownSet band passes (reset t) = false
-ownSet band passes (sensorSet s c) = false
-ownSet band passes (bandSet b c bytes) = eqb b band && passes c bytes
-ownSet band passes (geometry b start n) = false
-ownSet band passes (transfer w start n) = false
+ownSet band passes e = ifSetting (shapeOf e) (λ b c bytes. eqb b band && passes c bytes) false
 
 abbrev pub resetWith : (ℕ → Bool) → Event → Bool
-resetWith passes (reading s v) = false
-resetWith passes (elapse n) = false
-resetWith passes (reset t) = passes t
-resetWith passes (sensorSet s c) = false
-resetWith passes (bandSet b c bytes) = false
-resetWith passes (geometry b start n) = false
-resetWith passes (transfer w start n) = false
+resetWith passes e = ifResetting (shapeOf e) passes false
 
 -- "a granted Set named it 1", and "granted Set that named its Locked as 0"
 abbrev pub setTo : ℕ → Side → ℕ → Moment → Bool

@@ -1,11 +1,25 @@
 -- Laws of the answers to events, from their lists of refusals.
-use Prim.Native.Nat.{ℕ, _<_}
-use mathlib.Core.Path.{_≡_, refl}
+use Prim.Native.Nat.{ℕ, _<_, _≤_}
+use mathlib.Core.Path.{_≡_, refl, sym, ap, _∙_}
 use native.Mathlib.Omega.{arith}
-use mathlib.Core.Bool.{true, false}
+use mathlib.Core.Bool.{Bool, true, false, not, cond}
+use mathlib.Core.List.{List, map}
+use lib.Dec.{eqb, ltb}
+use borrow.Author.Tests.{lt-ltb, le-ltb}
+use Rattle.base.specs.Refusals.{firstOf}
+use Rattle.base.specs.Rows.{isRow}
+use Rattle.base.proofs.Cases.{cond-true, cond-false}
 use Rattle.base.proofs.Refusals.{appliesAt, numbersBelow, risingFrom, none-applies, first-below, rising-lowest}
+use Rattle.sensor.specs.declared.columns.SensorColumns.{SensorColumns}
+use Rattle.sensor.specs.Single.{readingAnswer}
+use Rattle.sensor.specs.Columns.{setAnswer}
+use Rattle.band.specs.declared.Side.{Side}
+use Rattle.band.specs.declared.BandColumns.{BandColumns}
+use Rattle.band.specs.Rows.{closedOn}
+use Rattle.geometry.specs.Events.{placeAnswer, transferAnswer}
 use Rattle.drive.specs.declared.Drive.{Drive}
-use Rattle.drive.specs.Events.{Event, reading, elapse, reset, sensorSet, bandSet, geometry, transfer, refusals, answerOf, LowestGiven}
+use Rattle.drive.specs.State.{conditionsOf, rowAt, settleOf}
+use Rattle.drive.specs.Events.{Event, reading, elapse, reset, sensorSet, bandSet, geometry, transfer, rowRefusals, sideOf, refusals, answerOf, LowestGiven, actOf, stepOf, elapsedStops, stopsOf}
 
 -- the numbers that events can get: 1 to 9
 event-numbers : (d : Drive) (e : Event) → numbersBelow 10 (refusals d e) ≡ true
@@ -39,3 +53,79 @@ lowest-given d e = rising-lowest 1 (refusals d e) (omega arith) (rises d e)
     rises d (bandSet b c bytes) = refl
     rises d (geometry b start n) = refl
     rises d (transfer w start n) = refl
+
+-- ---- a row that is not there, and one that is: what is left of the list
+
+module _ (d : Drive) (s : ℕ) (t : Bool) (p : t ≡ not (isRow (d .«sensor_count») s)) where
+  pub no-sensor-reading : (v : ℕ) → t ≡ true → 1 ≡ answerOf d (reading s v)
+  unfolding answerOf
+  no-sensor-reading v e = cond-true (not (isRow (d .«sensor_count») s)) 1 _ _ (sym p ∙ e) refl
+
+  pub reading-answered : (v : ℕ) → t ≡ false → readingAnswer v ≡ answerOf d (reading s v)
+  unfolding answerOf
+  reading-answered v e = cond-false (not (isRow (d .«sensor_count») s)) 1 _ _ (sym p ∙ e) refl
+
+  pub no-sensor-set : (c : SensorColumns) → t ≡ true → 1 ≡ answerOf d (sensorSet s c)
+  unfolding answerOf
+  no-sensor-set c e = cond-true (not (isRow (d .«sensor_count») s)) 1 _ _ (sym p ∙ e) refl
+
+  pub set-answered : (c : SensorColumns) → t ≡ false → setAnswer c ≡ answerOf d (sensorSet s c)
+  unfolding answerOf
+  set-answered c e = cond-false (not (isRow (d .«sensor_count») s)) 1 _ _ (sym p ∙ e) refl
+
+module _ (d : Drive) (b : ℕ) (c : BandColumns) (bytes : List ℕ) (t : Bool) (p : t ≡ not (isRow (d .«band_count») b)) where
+  pub no-band : t ≡ true → 1 ≡ answerOf d (bandSet b c bytes)
+  unfolding answerOf
+  no-band e = cond-true (not (isRow (d .«band_count») b)) 1 _ _ (sym p ∙ e) refl
+
+  pub band-answered : t ≡ false → firstOf (rowRefusals (conditionsOf d) c bytes (rowAt d b)) ≡ answerOf d (bandSet b c bytes)
+  unfolding answerOf
+  band-answered e = cond-false (not (isRow (d .«band_count») b)) 1 _ _ (sym p ∙ e) refl
+
+-- ---- the other events
+
+pub elapse-answered : (d : Drive) (n : ℕ) → n ≤ 4294967295 → 0 ≡ answerOf d (elapse n)
+unfolding answerOf
+elapse-answered d n h = cond-false (ltb 4294967295 n) 2 _ _ (le-ltb 4294967295 n h) refl
+
+pub elapse-refused : (d : Drive) (n : ℕ) → 4294967295 < n → 2 ≡ answerOf d (elapse n)
+unfolding answerOf
+elapse-refused d n h = cond-true (ltb 4294967295 n) 2 _ _ (lt-ltb 4294967295 n h) refl
+
+pub reset-answered : (d : Drive) (t : ℕ) → t ≤ 2 → 0 ≡ answerOf d (reset t)
+unfolding answerOf
+reset-answered d t h = cond-false (ltb 2 t) 2 _ _ (le-ltb 2 t h) refl
+
+pub reset-refused : (d : Drive) (t : ℕ) → 2 < t → 2 ≡ answerOf d (reset t)
+unfolding answerOf
+reset-refused d t h = cond-true (ltb 2 t) 2 _ _ (lt-ltb 2 t h) refl
+
+pub geometry-answered : (d : Drive) (b start n : ℕ) → placeAnswer (d .capacity) (d .«band_count») (d .spans) b start n ≡ answerOf d (geometry b start n)
+unfolding answerOf placeAnswer
+geometry-answered d b start n = refl
+
+pub transfer-refused : (d : Drive) (w start n : ℕ) → 1 < w → 2 ≡ answerOf d (transfer w start n)
+unfolding answerOf
+transfer-refused d w start n h = cond-true (ltb 1 w) 2 _ _ (lt-ltb 1 w h) refl
+
+pub transfer-answered : (d : Drive) (w start n : ℕ) (side : Side) (closed : List Bool) → w ≤ 1 → side ≡ sideOf w → closed ≡ map (closedOn side) (d .rows)
+    → transferAnswer (d .capacity) (d .«band_count») (d .spans) closed start n ≡ answerOf d (transfer w start n)
+unfolding answerOf transferAnswer
+transfer-answered d w start n side closed h es ec =
+    ap (λ (l : List Bool). transferAnswer (d .capacity) (d .«band_count») (d .spans) l start n) (ec ∙ ap (λ (x : Side). map (closedOn x) (d .rows)) es)
+    ∙ cond-false (ltb 1 w) 2 _ _ (le-ltb 1 w h) refl
+
+-- ---- what follows from the answer
+
+-- "Any refusal leaves the drive .. untouched", and has no stops
+pub refused-stays : (d : Drive) (e : Event) (n : ℕ) → n ≡ answerOf d e → eqb n 0 ≡ false → (d ≡ stepOf d e) × (0 ≡ stopsOf d e)
+unfolding stepOf stopsOf
+refused-stays d e n p z =
+    let f : eqb (answerOf d e) 0 ≡ false = ap (λ (k : ℕ). eqb k 0) (sym p) ∙ z in
+    (cond-false (eqb (answerOf d e) 0) _ _ _ f refl, cond-false (eqb (answerOf d e) 0) _ _ _ f refl)
+
+pub granted-acts : (d : Drive) (e : Event) (n : ℕ) → n ≡ answerOf d e → eqb n 0 ≡ true → (settleOf (actOf d e) ≡ stepOf d e) × (elapsedStops d e ≡ stopsOf d e)
+unfolding stepOf stopsOf
+granted-acts d e n p z =
+    let f : eqb (answerOf d e) 0 ≡ true = ap (λ (k : ℕ). eqb k 0) (sym p) ∙ z in
+    (cond-true (eqb (answerOf d e) 0) _ _ _ f refl, cond-true (eqb (answerOf d e) 0) _ _ _ f refl)

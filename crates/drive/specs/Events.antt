@@ -90,13 +90,16 @@ heldUnder conditions c new = heldBy c new (valueIn conditions new)
 
 -- the refusals of a Set of a row that is there: 2 "out of range: a field exceeds its range" ("an unknown mask bit or more than 1,024
 -- expression bytes gets 2"), 3 "not tokens" and 4 "too long" ("the one met first from the left"), 8 "held: an unlock under a TRUE expression"
-abbrev pub rowRefusals : List Bool → BandColumns → List ℕ → Row → List Refusal
-rowRefusals conditions c bytes row =
+abbrev pub rowRefusalsIf : BandColumns → List ℕ → (held : Bool) → List Refusal
+rowRefusalsIf c bytes held =
     when 2 (not (bandColumnsFit c) || ltb 1024 (length bytes))
     ∷ when 3 (eqb (tokensAnswer c bytes) 3)
     ∷ when 4 (eqb (tokensAnswer c bytes) 4)
-    ∷ when 8 (heldUnder conditions c (formedFrom c bytes row))
+    ∷ when 8 held
     ∷ []
+
+abbrev pub rowRefusals : List Bool → BandColumns → List ℕ → Row → List Refusal
+rowRefusals conditions c bytes row = rowRefusalsIf c bytes (heldUnder conditions c (formedFrom c bytes row))
 
 -- "transfer (0 read or 1 write, ..)"
 abbrev pub sideOf : ℕ → Side

@@ -10,7 +10,7 @@ use Rattle.drive.specs.declared.Drive.{Drive}
 use Rattle.drive.specs.declared.Reply.{Reply}
 use Rattle.drive.specs.State.{settleOf}
 use Rattle.drive.specs.Events.{Event, answerOf, actOf, stepOf, elapsedStops, stopsOf, Replies}
-use Rattle.events.specs.Steps.{refused, granting}
+use Rattle.events.specs.Parts.{refused, granting}
 
 module _ (d : Drive) (e : Event) where
   -- a refusal by its number

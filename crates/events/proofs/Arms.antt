@@ -4,12 +4,12 @@ use Prim.Native.Nat.{ℕ, _<_, _≤_}
 use native.Mathlib.Omega.{arith}
 use mathlib.Core.Bool.{Bool, true, false, not, cond}
 use mathlib.Core.List.{List, map}
-use lib.Dec.{eqb, ltb}
+use lib.Dec.{eqb}
 use lib.ListN.{length, getD, set}
-use borrow.Author.Tests.{lt-ltb, le-ltb, eqb-true, not-false}
+use borrow.Author.Tests.{eqb-true}
 use Rattle.base.specs.Rows.{isRow, modify}
 use Rattle.base.proofs.Cases.{cond-true, cond-false}
-use Rattle.base.proofs.Rows.{row-is, modify-set, getD-any}
+use Rattle.base.proofs.Rows.{row-place, modify-set, getD-any}
 use Rattle.answer.specs.declared.Answer.{Answer}
 use Rattle.answer.specs.declared.Answer.the-variants.{Done, NoRow, OutOfRange}
 use Rattle.answer.specs.Numbers.{numberOf}
@@ -18,7 +18,6 @@ use Rattle.sensor.specs.declared.single.SensorAnswer.{SensorAnswer}
 use Rattle.sensor.specs.declared.columns.SensorColumns.{SensorColumns}
 use Rattle.sensor.specs.Single.{freshSensor, readingAnswer, readingOf, powerCycleOf, Answers}
 use Rattle.sensor.specs.Columns.{setAnswer, setOf}
-use Rattle.sensor.specs.Columns.{columnsFit as sensorColumnsFit}
 use Rattle.band.specs.declared.Side.{Side}
 use Rattle.band.specs.declared.Row.{Row}
 use Rattle.band.specs.declared.BandColumns.{BandColumns}
@@ -32,21 +31,13 @@ use Rattle.drive.specs.declared.Reply.{Reply}
 use Rattle.drive.specs.State.{withRows, withSpans, withSensors, conditionsOf, settleOf}
 use Rattle.drive.specs.Events.{reading, elapse, reset, sensorSet, bandSet, geometry, transfer}
 use Rattle.drive.specs.Events.{answerOf, actOf, sideOf, formedFrom, Replies, eventOf}
+use Rattle.drive.proofs.Answers as A
 use Rattle.elapse.specs.declared.Elapsed.{Elapsed}
 use Rattle.elapse.specs.Jumps.{Elapses}
 use Rattle.row_set.specs.declared.RowAnswer.{RowAnswer}
 use Rattle.row_set.specs.Forming.{rowAnswer, SetsRow}
-use Rattle.events.specs.Steps.{Takes, refused, granting, Stores}
+use Rattle.events.specs.Parts.{Takes, refused, granting, Stores}
 use Rattle.events.proofs.Answering.{refuses, grants, done, by-answer}
-
--- ---- rows
-
-pub row-there : (count i : ℕ) (t : Bool) → t ≡ not (isRow count i) → t ≡ false → isRow count i ≡ true
-row-there count i t p e = not-false (isRow count i) (sym p ∙ e)
-
--- the place of a row that is there
-pub row-place : (count i : ℕ) (t : Bool) → t ≡ not (isRow count i) → t ≡ false → i < 16
-row-place count i t p e = row-is count i (row-there count i t p e) .1
 
 -- ---- a sensor's and a row's events
 
@@ -64,14 +55,6 @@ stored-refused d x a q t p e w = record {
   drive = ap (λ (r : Reply). r .drive) w ∙ cond-false (eqb (numberOf a) 0) _ _ _ (sym p ∙ e) refl;
 }
 
--- a test that is not met, in front of an answer
-pub behind : (b : Bool) (n m k : ℕ) → b ≡ true → n ≡ m → n ≡ cond (not b) k m
-behind b n m k e q = q ∙ sym (ap (λ (x : Bool). cond (not x) k m) e)
-
-pub cond-not : (b : Bool) (x y : ℕ) → cond b x y ≡ cond (not b) y x
-cond-not true x y = refl
-cond-not false x y = refl
-
 module _ (d : Drive) (s : ℕ) (one : Sensor) (r : SensorAnswer) (q : Reply) (t : Bool) (p : t ≡ not (isRow (d .«sensor_count») s)) (e : t ≡ false) (k : Takes (d .sensors) s freshSensor one) where
   stored : (f : Sensor → Sensor) → r .sensor ≡ f one → withSensors (set (d .sensors) s (r .sensor)) d ≡ withSensors (modify f s (d .sensors)) d
   stored f h =
@@ -79,55 +62,47 @@ module _ (d : Drive) (s : ℕ) (one : Sensor) (r : SensorAnswer) (q : Reply) (t 
       (modify-set f (d .sensors) s freshSensor (r .sensor) (h ∙ ap f (k .element)) (omega (arith, k .long, row-place (d .«sensor_count») s t p e)))
 
   pub reading-replies : (v : ℕ) → Answers (readingAnswer v) (readingOf v one) r → Stores (r .answer) (withSensors (set (d .sensors) s (r .sensor)) d) d q → Replies d (reading s v) q
-  unfolding answerOf actOf
+  unfolding actOf
   reading-replies v a w =
       by-answer d (reading s v) (numberOf (r .answer)) (withSensors (set (d .sensors) s (r .sensor)) d) q (w .answer)
-      (behind (isRow (d .«sensor_count») s) (numberOf (r .answer)) (readingAnswer v) 1 (row-there (d .«sensor_count») s t p e) (a .answer))
+      (a .answer ∙ A.reading-answered d s t p v e)
       (w .stops) refl (w .drive) (stored (readingOf v) (a .sensor))
 
   pub set-replies : (c : SensorColumns) → Answers (setAnswer c) (setOf c one) r → Stores (r .answer) (withSensors (set (d .sensors) s (r .sensor)) d) d q → Replies d (sensorSet s c) q
-  unfolding answerOf actOf
+  unfolding actOf
   set-replies c a w =
       by-answer d (sensorSet s c) (numberOf (r .answer)) (withSensors (set (d .sensors) s (r .sensor)) d) q (w .answer)
-      (behind (isRow (d .«sensor_count») s) (numberOf (r .answer)) _ 1 (row-there (d .«sensor_count») s t p e)
-      (a .answer ∙ cond-not (sensorColumnsFit c) 0 2))
+      (a .answer ∙ A.set-answered d s t p c e)
       (w .stops) refl (w .drive) (stored (setOf c) (a .sensor))
 
 -- ---- elapse and reset
 
 pub elapse-replies : (d : Drive) (n : ℕ) (x : Elapsed) (s : Drive) → n ≤ 4294967295 → Elapses n d x → s ≡ settleOf (x .drive)
     → Replies d (elapse n) (record { answer = Done; stops = x .stops; drive = s })
-unfolding answerOf actOf
+unfolding actOf
 elapse-replies d n x s h r e =
-    grants d (elapse n) (record { answer = Done; stops = x .stops; drive = s }) refl
-    (sym (cond-false (ltb 4294967295 n) _ _ _ (le-ltb 4294967295 n h) refl)) (r .stops) (e ∙ ap settleOf (r .drive))
+    grants d (elapse n) (record { answer = Done; stops = x .stops; drive = s }) refl (sym (A.elapse-answered d n h)) (r .stops)
+    (e ∙ ap settleOf (r .drive))
 
 pub elapse-refused : (d : Drive) (n : ℕ) (q : Reply) → 4294967295 < n → q ≡ refused OutOfRange d → Replies d (elapse n) q
-unfolding answerOf
-elapse-refused d n q h w =
-    refuses d (elapse n) OutOfRange q w (cond-true (ltb 4294967295 n) _ _ _ (lt-ltb 4294967295 n h) refl) refl
+elapse-refused d n q h w = refuses d (elapse n) OutOfRange q w (A.elapse-refused d n h) refl
 
 pub reset-replies : (d : Drive) (t : ℕ) (rows : List Row) (sensors : List Sensor) (m x : Drive) (q : Reply) → t ≤ 2
     → rows ≡ map (resetRow t) (d .rows) → sensors ≡ cond (eqb t 0) (map powerCycleOf (d .sensors)) (d .sensors)
     → m ≡ withRows rows d → x ≡ withSensors sensors m → q ≡ granting x → Replies d (reset t) q
-unfolding answerOf actOf
+unfolding actOf
 reset-replies d t rows sensors m x q h er es em ex w =
-    done d (reset t) x q w (sym (cond-false (ltb 2 t) _ _ _ (le-ltb 2 t h) refl)) refl
+    done d (reset t) x q w (sym (A.reset-answered d t h)) refl
     (ex ∙ ap₂ (λ (l : List Sensor) (y : Drive). withSensors l y) es (em ∙ ap (λ (l : List Row). withRows l d) er))
 
 pub reset-refused : (d : Drive) (t : ℕ) (q : Reply) → 2 < t → q ≡ refused OutOfRange d → Replies d (reset t) q
-unfolding answerOf
-reset-refused d t q h w = refuses d (reset t) OutOfRange q w (cond-true (ltb 2 t) _ _ _ (lt-ltb 2 t h) refl) refl
+reset-refused d t q h w = refuses d (reset t) OutOfRange q w (A.reset-refused d t h) refl
 
 -- ---- geometry and transfer
 
-pub place-answer : (d : Drive) (b start n : ℕ) → placeAnswer (d .capacity) (d .«band_count») (d .spans) b start n ≡ answerOf d (geometry b start n)
-unfolding placeAnswer answerOf
-place-answer d b start n = cond-not (isRow (d .«band_count») b) _ 1
-
 module _ (d : Drive) (b start n : ℕ) (r : Placed) (h : Places (d .capacity) (d .«band_count») (d .spans) b start n r) (t : Bool) (p : t ≡ eqb (numberOf (r .answer)) 0) where
   given : numberOf (r .answer) ≡ answerOf d (geometry b start n)
-  given = h .answer ∙ place-answer d b start n
+  given = h .answer ∙ A.geometry-answered d b start n
 
   pub geometry-done : (x : Drive) (q : Reply) → t ≡ true → x ≡ withSpans (r .spans) d → q ≡ granting x → Replies d (geometry b start n) q
   unfolding placeOf actOf
@@ -142,16 +117,11 @@ module _ (d : Drive) (b start n : ℕ) (r : Placed) (h : Places (d .capacity) (d
 
 module _ (d : Drive) (w start n : ℕ) where
   pub direction-refused : (q : Reply) → 1 < w → q ≡ refused OutOfRange d → Replies d (transfer w start n) q
-  unfolding answerOf
-  direction-refused q h e = refuses d (transfer w start n) OutOfRange q e (cond-true (ltb 1 w) _ _ _ (lt-ltb 1 w h) refl) refl
+  direction-refused q h e = refuses d (transfer w start n) OutOfRange q e (A.transfer-refused d w start n h) refl
 
   module _ (side : Side) (closed : List Bool) (a : Answer) (t : Bool) (h : w ≤ 1) (es : side ≡ sideOf w) (ec : closed ≡ map (closedOn side) (d .rows)) (ea : numberOf a ≡ transferAnswer (d .capacity) (d .«band_count») (d .spans) closed start n) (p : t ≡ eqb (numberOf a) 0) where
     reached : numberOf a ≡ answerOf d (transfer w start n)
-    unfolding answerOf transferAnswer
-    reached =
-        ea
-        ∙ ap (λ (l : List Bool). transferAnswer (d .capacity) (d .«band_count») (d .spans) l start n) (ec ∙ ap (λ (x : Side). map (closedOn x) (d .rows)) es)
-        ∙ cond-false (ltb 1 w) 2 _ _ (le-ltb 1 w h) refl
+    reached = ea ∙ A.transfer-answered d w start n side closed h es ec
 
     pub transfer-done : (q : Reply) → t ≡ true → q ≡ granting d → Replies d (transfer w start n) q
     unfolding actOf
@@ -165,10 +135,8 @@ module _ (d : Drive) (w start n : ℕ) where
 module _ (d : Drive) (b : ℕ) (c : BandColumns) (bytes : List ℕ) (row : Row) (cs : List Bool) (r : RowAnswer) (q : Reply) (t : Bool) (p : t ≡ not (isRow (d .«band_count») b)) (e : t ≡ false) (k : Takes (d .rows) b freshRow row) (ec : cs ≡ conditionsOf d) (s : SetsRow cs c bytes row r) where
   -- the answer, once the row is there
   pub row-answer : numberOf (r .answer) ≡ answerOf d (bandSet b c bytes)
-  unfolding answerOf rowAnswer
-  row-answer =
-      behind (isRow (d .«band_count») b) (numberOf (r .answer)) _ 1 (row-there (d .«band_count») b t p e)
-      (s .answer ∙ ap₂ (λ (x : List Bool) (y : Row). rowAnswer x c bytes y) ec (k .element))
+  unfolding rowAnswer
+  row-answer = s .answer ∙ ap₂ (λ (x : List Bool) (y : Row). rowAnswer x c bytes y) ec (k .element) ∙ A.band-answered d b c bytes t p e
 
   pub band-replies : Stores (r .answer) (withRows (set (d .rows) b (r .row)) d) d q → Replies d (bandSet b c bytes) q
   unfolding actOf
@@ -191,21 +159,15 @@ module _ (d : Drive) (b : ℕ) (c : BandColumns) (bytes : List ℕ) (row : Row) 
 -- a row that is not there
 pub no-sensor-reading : (d : Drive) (s v : ℕ) (t : Bool) (q : Reply) → t ≡ not (isRow (d .«sensor_count») s) → t ≡ true → q ≡ refused NoRow d
     → Replies d (reading s v) q
-unfolding answerOf
-no-sensor-reading d s v t q p e w =
-    refuses d (reading s v) NoRow q w (cond-true (not (isRow (d .«sensor_count») s)) 1 _ _ (sym p ∙ e) refl) refl
+no-sensor-reading d s v t q p e w = refuses d (reading s v) NoRow q w (A.no-sensor-reading d s t p v e) refl
 
 pub no-sensor-set : (d : Drive) (s : ℕ) (c : SensorColumns) (t : Bool) (q : Reply) → t ≡ not (isRow (d .«sensor_count») s) → t ≡ true
     → q ≡ refused NoRow d → Replies d (sensorSet s c) q
-unfolding answerOf
-no-sensor-set d s c t q p e w =
-    refuses d (sensorSet s c) NoRow q w (cond-true (not (isRow (d .«sensor_count») s)) 1 _ _ (sym p ∙ e) refl) refl
+no-sensor-set d s c t q p e w = refuses d (sensorSet s c) NoRow q w (A.no-sensor-set d s t p c e) refl
 
 pub no-band : (d : Drive) (b : ℕ) (c : BandColumns) (bytes : List ℕ) (t : Bool) (q : Reply) → t ≡ not (isRow (d .«band_count») b) → t ≡ true
     → q ≡ refused NoRow d → Replies d (bandSet b c bytes) q
-unfolding answerOf
-no-band d b c bytes t q p e w =
-    refuses d (bandSet b c bytes) NoRow q w (cond-true (not (isRow (d .«band_count») b)) 1 _ _ (sym p ∙ e) refl) refl
+no-band d b c bytes t q p e w = refuses d (bandSet b c bytes) NoRow q w (A.no-band d b c bytes t p e) refl
 
 -- a refusal has no stops
 pub no-stops : (d : Drive) (a : Answer) (q : Reply) (n : ℕ) → q ≡ refused a d → q .stops ≤ n

@@ -12,7 +12,7 @@ ghost use Rattle.drive.specs.State.{withRows, withSensors};
 ghost use Rattle.drive.specs.Events.{Replies, eventOf};
 ghost use Rattle.drive.specs.Events.{Event as E};
 ghost use Rattle.elapse.specs.Jumps.{running};
-ghost use Rattle.events.specs.Steps.{Takes, refused, granting, Stores};
+ghost use Rattle.events.specs.Parts.{Takes, refused, granting, Stores};
 use answer::Answer;
 use band::BandColumns;
 use band::Row;

@@ -48,7 +48,7 @@ use Rattle.elapse.specs.Jumps.{jumpOf, Elapses}
 use Rattle.elapse.proofs.Calm.{Calm, drive-jumps}
 use Rattle.row_set.specs.declared.RowAnswer.{RowAnswer}
 use Rattle.row_set.specs.Forming.{rowAnswer, SetsRow}
-use Rattle.events.specs.Steps.{Takes, refused}
+use Rattle.events.specs.Parts.{Takes, refused}
 use Rattle.events.proofs.Arms.{row-place, row-there, behind, cond-not, row-answer, no-sensor-reading, no-sensor-set, no-band, elapse-refused, reset-refused, place-answer}
 use Rattle.in_place.specs.declared.inner.Moved.{Moved}
 use Rattle.in_place.specs.declared.inner.Formed.{Formed}

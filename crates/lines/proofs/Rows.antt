@@ -11,7 +11,7 @@ use Rattle.sensor.specs.declared.single.Sensor.{Sensor}
 use Rattle.sensor.specs.Single.{freshSensor}
 use Rattle.band.specs.declared.Row.{Row}
 use Rattle.band.specs.Rows.{freshRow, valueIn}
-use Rattle.events.specs.Steps.{Takes}
+use Rattle.events.specs.Parts.{Takes}
 use Rattle.lines.specs.Lines.{line, bandLine, sensorLine}
 use Rattle.lines.specs.Parts.{Puts, Room}
 

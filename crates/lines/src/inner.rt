@@ -6,7 +6,7 @@ ghost use lib.ListN.{length};
 ghost use Rattle.base.specs.Lists.{oneIf};
 ghost use Rattle.sensor.specs.Single.{freshSensor};
 ghost use Rattle.band.specs.Rows.{freshRow, valueIn};
-ghost use Rattle.events.specs.Steps.{Takes};
+ghost use Rattle.events.specs.Parts.{Takes};
 ghost use Rattle.lines.specs.Lines.{
   decimal,
   line,

@@ -1,4 +1,3 @@
 pub mod Tables
-pub mod Headers
 pub mod Reaching
 pub mod Worked

@@ -9,7 +9,8 @@ use lib.ListN.{length, getD, replicate}
 use borrow.Author.Tests.{leb-true, eqb-true, not-false}
 use Rattle.base.specs.Columns.{named, within}
 use Rattle.base.specs.Rows.{isRow}
-use Rattle.base.proofs.Cases.{and-left, and-right}
+use Rattle.base.proofs.Cases.{cond-either, and-left, and-right, neither}
+use Rattle.base.proofs.Refusals.{appliesAt}
 use Rattle.base.proofs.Rows.{row-is}
 use Rattle.base.proofs.Jumps.{ticks-keep}
 use Rattle.sensor.specs.declared.single.Sensor.{Sensor}
@@ -31,7 +32,6 @@ use Rattle.band.proofs.Settling.{fresh-settles, fresh-reset}
 use Rattle.geometry.specs.declared.Span.{Span}
 use Rattle.geometry.specs.Blocks.{bandSpans, overlapping}
 use Rattle.geometry.specs.Events.{noSpan, Within}
-use Rattle.geometry.proofs.Ranges.{neither}
 use Rattle.geometry.proofs.Arms.{end-up-to}
 use Rattle.geometry.proofs.Invariant.{fresh-apart}
 use Rattle.drive.specs.declared.Drive.{Drive}
@@ -46,13 +46,13 @@ use Rattle.drive.specs.Events.{
   geometry,
   transfer,
   refusals,
-  lowest,
   answerOf,
   formedFrom,
   actOf,
   stepOf,
   runOf,
 }
+use Rattle.drive.proofs.Answers.{granted-free}
 use Rattle.drive.proofs.Settling.{settle-twice}
 use Rattle.reached.specs.Reached.{Table, Stored, RowFits, InRange, Shaped, Reached, Fields, AllFields}
 use Rattle.reached.proofs.Tables.{fresh-table, map-table, modify-table, set-table}
@@ -72,20 +72,12 @@ settle-fits conditions row r = locked-fits _ _ row r
 
 reset-fits : (type : ℕ) (row : Row) → RowFits row → RowFits (resetRow type row)
 unfolding resetRow
-reset-fits type row r = go (inSet (row .«lock_on_reset») type)
-  where
-    go : (b : Bool) → RowFits (cond b (lockUnder true row) row)
-    go true = locked-fits _ _ row r
-    go false = r
+reset-fits type row r = cond-either RowFits (inSet (row .«lock_on_reset») type) (lockUnder true row) row (λ q. locked-fits _ _ row r) (λ q. r)
 
 -- what a Set's bytes read to, a refusal too
 read-stored : (tokens : List ℕ) (o : Outcome) → Bytes tokens → readTokens tokens ≡ o → Stored (expressionIn o)
 read-stored tokens (elements es) k e = let f = read-fits tokens es k e in record { list = es; same = refl; few = f .0; fit = f .1 }
 read-stored tokens (refusal n) k e = record { list = []; same = refl; few = omega arith; fit = tt }
-
-either-stored : (b : Bool) (new old : Expression) → Stored new → Stored old → Stored (cond b new old)
-either-stored true new old n o = n
-either-stored false new old n o = o
 
 -- a column after a Set that fits
 either-within : (b : Bool) (most new old : ℕ) → old ≤ most → within most b new ≡ true → cond b new old ≤ most
@@ -116,8 +108,8 @@ unfolding formedRow
 formed-fits c tokens e k row r = record {
   «lock_on_reset» = either-within (named 16 (c .mask)) _ (c .«lock_on_reset») (row .«lock_on_reset») (r .«lock_on_reset») (lock-within c e);
   expression =
-      either-stored (named 32 (c .mask)) (expressionIn (readTokens tokens)) (row .expression) (read-stored tokens (readTokens tokens) k refl)
-      (r .expression);
+      cond-either Stored (named 32 (c .mask)) (expressionIn (readTokens tokens)) (row .expression)
+      (λ q. read-stored tokens (readTokens tokens) k refl) (λ q. r .expression);
 }
 
 -- ---- other rows, spans or sensors
@@ -148,32 +140,18 @@ tick-shaped d r = settle-shaped (fallOf d) (fall-shaped d r)
 
 -- ---- what an event that is answered 0 does
 
--- of the table of refusals no row applies where the answer is 0
-none-applies : (n : ℕ) (l : List Bool) → lowest (suc n) l ≡ 0 → (i : ℕ) → getD l i false ≡ false
-none-applies n [] e i = refl
-none-applies n (true ∷ l) e i = absurd (omega arith)
-none-applies n (false ∷ l) e zero = refl
-none-applies n (false ∷ l) e (suc i) = none-applies (suc n) l e i
-
-pub granted : (d : Drive) (e : Event) → answerOf d e ≡ 0 → (i : ℕ) → getD (refusals d e) i false ≡ false
-unfolding answerOf
-granted d e q = none-applies 0 (refusals d e) q
-
 counted : (count i : ℕ) → not (isRow count i) ≡ false → (i < count) × (i < 16)
 counted count i e = row-is count i (not-false (isRow count i) e)
 
-powered : (b : Bool) (count : ℕ) (l : List Sensor) → Table Sound freshSensor count l → Table Sound freshSensor count (cond b (map powerCycleOf l) l)
-powered true count l t = map-table Sound freshSensor powerCycleOf power-cycle-sound count l t fresh-power-cycle
-powered false count l t = t
-
-act-shaped : (d : Drive) (e : Event) → Fields e → ((i : ℕ) → getD (refusals d e) i false ≡ false) → Shaped d → Shaped (actOf d e)
+act-shaped : (d : Drive) (e : Event) → Fields e → ((i : ℕ) → appliesAt (refusals d e) i ≡ false) → Shaped d → Shaped (actOf d e)
 unfolding actOf
 act-shaped d (reading s v) f q r =
     with-sensors d r _ (modify-table Sound freshSensor (readingOf v) (reading-sound v) _ _ (r .sensors) s (counted _ s (q 0) .0))
 act-shaped d (elapse n) f q r = ticks-keep tickOf Shaped tick-shaped n d r
 act-shaped d (reset t) f q r =
     with-sensors _ (with-rows d r _ (map-table RowFits freshRow (resetRow t) (reset-fits t) _ _ (r .rows) (fresh-reset t))) _
-    (powered (eqb t 0) _ _ (r .sensors))
+    (cond-either (Table Sound freshSensor (d .«sensor_count»)) (eqb t 0) (map powerCycleOf (d .sensors)) (d .sensors)
+    (λ e. map-table Sound freshSensor powerCycleOf power-cycle-sound _ _ (r .sensors) fresh-power-cycle) (λ e. r .sensors))
 act-shaped d (sensorSet s c) f q r =
     with-sensors d r _ (modify-table Sound freshSensor (setOf c) (set-sound c) _ _ (r .sensors) s (counted _ s (q 0) .0))
 act-shaped d (bandSet b c tokens) f q r =
@@ -181,13 +159,13 @@ act-shaped d (bandSet b c tokens) f q r =
     with-rows d r _
     (modify-table RowFits freshRow (formedFrom c tokens) (formed-fits c tokens fits f) _ _ (r .rows) b (counted _ b (q 0) .0))
 act-shaped d (geometry b start n) f q r =
-    let e = end-up-to (d .capacity) start n (q 5) in
+    let e = end-up-to (d .capacity) start n (q 2) in
     let k = counted (d .«band_count») b (q 0) in
     with-spans d r _
     (set-table (Within (d .capacity)) noSpan (record { start = start; length = n }) _ _ b
     (record { begins = e .0; ends = omega arith })
     (k .0) (k .1) (r .spans))
-    (q 6)
+    (q 3)
 act-shaped d (transfer w start n) f q r = r
 
 -- ---- the theorems
@@ -235,14 +213,13 @@ fresh-reached capacity bands sensors h =
 
 pub step-reached : (d : Drive) (e : Event) → Fields e → Reached d → Reached (stepOf d e)
 unfolding stepOf
-step-reached d e f r = go (eqb (answerOf d e) 0) refl
-  where
-    go : (done : Bool) → eqb (answerOf d e) 0 ≡ done → Reached (cond done (settleOf (actOf d e)) d)
-    go true q = record {
+step-reached d e f r =
+    cond-either Reached (eqb (answerOf d e) 0) (settleOf (actOf d e)) d
+    (λ q. record {
       settled = settle-twice (actOf d e);
-      shaped = settle-shaped (actOf d e) (act-shaped d e f (granted d e (eqb-true (answerOf d e) 0 q)) (r .shaped));
-    }
-    go false q = r
+      shaped = settle-shaped (actOf d e) (act-shaped d e f (granted-free d e (eqb-true (answerOf d e) 0 q)) (r .shaped));
+    })
+    (λ q. r)
 
 -- from any drive that is reached, and so from the fresh one of a header in range
 pub run-on : (d : Drive) (es : List Event) → AllFields es → Reached d → Reached (runOf d es)

@@ -16,7 +16,7 @@ use Rattle.geometry.specs.Blocks.{bandSpans, overlapping}
 use Rattle.geometry.specs.Events.{noSpan, Within}
 use Rattle.drive.specs.declared.Drive.{Drive}
 use Rattle.drive.specs.State.{settleOf}
-use Rattle.drive.specs.Events.{Event, reading, elapse, reset, sensorSet, bandSet, geometry, transfer}
+use Rattle.drive.specs.Events.{Event, shapeOf, ifSetting}
 
 -- An array of a drive, of which the header counts the first ones.
 pub record Table {A : Type 0} (Good : A → Type 0) (fresh : A) (count : ℕ) (l : List A) : Type 0 where
@@ -75,20 +75,8 @@ pub record Reached (d : Drive) : Type 0 where
 
 -- The tokens of a band Set are bytes; the fields of the other events are any numbers.
 abbrev pub Fields : Event → Type 0
-Fields (reading s v) = Unit {0}
-Fields (elapse n) = Unit {0}
-Fields (reset t) = Unit {0}
-Fields (sensorSet s c) = Unit {0}
-Fields (bandSet b c tokens) = Bytes tokens
-Fields (geometry b start n) = Unit {0}
-Fields (transfer w start n) = Unit {0}
+Fields e = Bytes (ifSetting (shapeOf e) (λ b c tokens. tokens) [])
 
 abbrev pub AllFields : List Event → Type 0
 AllFields [] = Unit {0}
 AllFields (e ∷ es) = Fields e × AllFields es
-
--- The first drive has the capacity and the counts of the second.
-pub record SameHeader (d e : Drive) : Type 0 where
-  pub capacity : d .capacity ≡ e .capacity
-  pub «band_count» : d .«band_count» ≡ e .«band_count»
-  pub «sensor_count» : d .«sensor_count» ≡ e .«sensor_count»

@@ -1,5 +1,5 @@
 -- How long a listing is at most: 13 bytes for each of 32,766 events, 11 for each of 16 bands and 22 for each of 16 sensors.
-use mathlib.Core.Path.{_≡_, refl}
+use mathlib.Core.Path.{_≡_, refl, _∙_}
 use Prim.Native.Nat.{ℕ, zero, suc, _+_, _*_, _≤_, _<_}
 use native.Mathlib.Nat.{suc-mul}
 use native.Mathlib.Omega.{arith}
@@ -9,30 +9,34 @@ use lib.Dec.{eqb, ltb}
 use lib.ListN.{length, getD, length-append}
 use borrow.Author.Tests.{ltb-true, ltb-false}
 use Rattle.base.specs.Lists.{oneIf}
-use Rattle.base.proofs.Lists.{oneIf-le}
+use Rattle.base.specs.Ticks.{stops}
+use Rattle.base.proofs.Cases.{cond-either}
+use Rattle.base.proofs.Lists.{oneIf-le, few-counted}
 use Rattle.phases.specs.declared.Phase.{Phase}
 use Rattle.phases.specs.declared.Phase.the-variants.{SS0, ST0, SS1, ST1, SS2}
 use Rattle.phases.specs.Phases.{phaseNumber}
 use Rattle.sensor.specs.declared.single.Sensor.{Sensor}
 use Rattle.sensor.specs.Single.{freshSensor, runs}
+use Rattle.sensor.specs.Sound.{Timed}
+use Rattle.sensor.proofs.Keeping.{keeps-timed}
 use Rattle.band.specs.declared.Side.the-variants.{Read, Write}
 use Rattle.band.specs.declared.Row.{Row}
 use Rattle.band.specs.Rows.{freshRow, lockedOn, valueIn}
 use Rattle.drive.specs.declared.Drive.{Drive}
-use Rattle.drive.specs.State.{freshDrive, headerFits, conditionsOf}
-use Rattle.drive.specs.Events.{Event, reading, elapse, reset, sensorSet, bandSet, geometry, transfer, refusals, lowest, answerOf, elapsedStops, stopsOf, stepOf, runOf}
+use Rattle.drive.specs.State.{freshDrive, headerFits, conditionsOf, tickOf, stopNext}
+use Rattle.drive.specs.Events.{Event, Shape, ticking, resetting, setting, other, shapeOf, ifTicking, answerOf, elapsedStops, stopsOf, stepOf, runOf}
+use Rattle.drive.proofs.Answers.{answer-below}
+use Rattle.drive.proofs.Keeping.{step-keeps, Each, run-each, fresh-each}
 use Rattle.elapse.proofs.Calm.{stops-few}
 use Rattle.reached.proofs.Reaching.{fresh-reached}
 use Rattle.script.specs.Fields.{Parsed, event, broken, eventAt}
 use Rattle.script.specs.Whole.{Header, header, noHeader, headerAt, Events, events, badFrom, before, andThen, eventsIn, eventsFrom, Script, accepted, bad, withEvents, withHeader, readScript}
 use Rattle.script.proofs.Few.{few-events}
-use Rattle.in_place.proofs.Parts.{few-counted}
 use Rattle.in_place.specs.Course.{along, answersOf, stopsIn}
 use Rattle.run.proofs.Whole.{accepted-is}
 use Rattle.lines.specs.Lines.{decimal, fields, line, lines, eventLine, eventLines, bandLine, bandLines, sensorLine, sensorLines, driveLines, badLine}
 use Rattle.report.specs.Listing.{listing}
 use Rattle.lines.proofs.Decimal.{few-digits}
-use Rattle.report.proofs.Timers.{AllTimed, event-timed, run-timed, fresh-drive-timed}
 
 -- ---- a line
 
@@ -116,42 +120,28 @@ lines-short f w (suc n) h =
 
 -- ---- an event's numbers
 
-lowest-few : (n : ℕ) (l : List Bool) → 1 ≤ n → lowest n l < n + length l
-lowest-few n [] h = omega (arith, h)
-lowest-few n (t ∷ l) h = go t (lowest-few (suc n) l (omega (arith, h)))
-  where
-    go : (t : Bool) → lowest (suc n) l < suc n + length l → cond t n (lowest (suc n) l) < n + suc (length l)
-    go true ih = omega arith
-    go false ih = omega (arith, ih)
+-- sixteen sensors, as the fresh drive has
+abbrev Sixteen : Drive → Type 0
+Sixteen d = length (d .sensors) ≡ 16
 
-answer-few : (d : Drive) (e : Event) → answerOf d e < 10
-unfolding answerOf
-answer-few d e = lowest-few 1 (refusals d e) (omega arith)
-
-stops-sixteen : (d : Drive) (e : Event) → AllTimed d → stopsOf d e < 100
+stops-sixteen : (d : Drive) (e : Event) → Sixteen d → stopsOf d e < 100
 unfolding stopsOf
-stops-sixteen d e h = by (eqb (answerOf d e) 0) e
+stops-sixteen d e h =
+    cond-either (λ (n : ℕ). n < 100) (eqb (answerOf d e) 0) (elapsedStops d e) 0 (λ q. elapsed (shapeOf e)) (λ q. omega arith)
   where
-    elapsed : (e : Event) → elapsedStops d e < 100
-    elapsed (reading s v) = omega arith
-    elapsed (elapse n) = omega (arith, stops-few n d, few-counted runs (d .sensors), h .sixteen)
-    elapsed (reset t) = omega arith
-    elapsed (sensorSet s c) = omega arith
-    elapsed (bandSet b c bytes) = omega arith
-    elapsed (geometry b start n) = omega arith
-    elapsed (transfer w start n) = omega arith
-
-    by : (t : Bool) (e : Event) → cond t (elapsedStops d e) 0 < 100
-    by true e = elapsed e
-    by false e = omega arith
+    elapsed : (s : Shape) → ifTicking s (λ n. stops tickOf stopNext n d) 0 < 100
+    elapsed (ticking n) = omega (arith, stops-few n d, few-counted runs (d .sensors), h)
+    elapsed (resetting t) = omega arith
+    elapsed (setting b c bytes) = omega arith
+    elapsed other = omega arith
 
 -- what an event gets on any drive that is reached
-along-few : (f : Drive → Event → ℕ) (w : ℕ) → 0 < w → ((d : Drive) (e : Event) → AllTimed d → f d e < w) → (d : Drive) (es : List Event) (i : ℕ) → AllTimed d
+along-few : (f : Drive → Event → ℕ) (w : ℕ) → 0 < w → ((d : Drive) (e : Event) → Sixteen d → f d e < w) → (d : Drive) (es : List Event) (i : ℕ) → Sixteen d
     → getD (along f d es) i 0 < w
 unfolding along
 along-few f w z h d [] i t = z
 along-few f w z h d (e ∷ es) zero t = h d e t
-along-few f w z h d (e ∷ es) (suc i) t = along-few f w z h (stepOf d e) es i (event-timed d e t)
+along-few f w z h d (e ∷ es) (suc i) t = along-few f w z h (stepOf d e) es i (step-keeps d e .sensors ∙ t)
 
 -- ---- the place of a bad script
 
@@ -189,8 +179,9 @@ bad-place s place q = go (ltb 65536 (length s)) refl (headerAt s) q
 -- ---- the listing
 
 module _ (capacity bands sensors : ℕ) (es : List Event) (fits : headerFits capacity bands sensors ≡ true) (few : length es ≤ 32766) where
-  drive-after : AllTimed (runOf (freshDrive capacity bands sensors) es)
-  drive-after = run-timed (freshDrive capacity bands sensors) es (fresh-drive-timed capacity bands sensors)
+  -- no timer of the drive at the end exceeds the greatest timeout
+  timed-after : Each Timed (runOf (freshDrive capacity bands sensors) es)
+  timed-after = run-each Timed keeps-timed (freshDrive capacity bands sensors) es (fresh-each Timed keeps-timed capacity bands sensors)
 
   accepted-short : length (listing (accepted capacity bands sensors es)) ≤ 426486
   unfolding listing freshDrive
@@ -198,14 +189,14 @@ module _ (capacity bands sensors : ℕ) (es : List Event) (fits : headerFits cap
       let fresh = freshDrive capacity bands sensors in
       let d = runOf fresh es in
       let h = fresh-reached capacity bands sensors fits .shaped .header in
-      let t = fresh-drive-timed capacity bands sensors in
+      let t : Sixteen fresh = refl in
       let e : length (eventLines (answersOf fresh es) (stopsIn fresh es) (length es)) ≤ length es * 13 =
       lines-short _ 13 (length es) (λ i k. event-short _ _ _ (omega (arith, k, few))
-      (along-few answerOf 10 (omega arith) (λ x y z. answer-few x y) fresh es i t) (along-few stopsOf 100 (omega arith) stops-sixteen fresh es i t)) in
+      (along-few answerOf 10 (omega arith) (λ x y z. answer-below x y) fresh es i t) (along-few stopsOf 100 (omega arith) stops-sixteen fresh es i t)) in
       let b : length (bandLines (conditionsOf d) (d .rows) bands) ≤ bands * 11 =
       lines-short _ 11 bands (λ i k. band-short i (getD (d .rows) i freshRow) (valueIn (conditionsOf d) (getD (d .rows) i freshRow)) (omega (arith, k, h .few-bands))) in
       let s : length (sensorLines (d .sensors) sensors) ≤ sensors * 22 =
-      lines-short _ 22 sensors (λ i k. sensor-short i (getD (d .sensors) i freshSensor) (omega (arith, k, h .few-sensors)) (omega (arith, drive-after .each i .timer))) in
+      lines-short _ 22 sensors (λ i k. sensor-short i (getD (d .sensors) i freshSensor) (omega (arith, k, h .few-sensors)) (omega (arith, timed-after i .timer))) in
       omega (
         arith,
         length-append (eventLines (answersOf fresh es) (stopsIn fresh es) (length es)) (driveLines bands sensors d),

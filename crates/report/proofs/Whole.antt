@@ -10,7 +10,7 @@ use borrow.Author.Tests.{le-leb}
 use Rattle.answer.specs.Numbers.{numberOf}
 use Rattle.drive.specs.State.{freshDrive}
 use Rattle.drive.specs.Events.{Event, answerOf, stopsOf, runOf}
-use Rattle.reached.proofs.Headers.{run-header}
+use Rattle.drive.proofs.Keeping.{run-header}
 use Rattle.reached.proofs.Reaching.{fresh-reached}
 use Rattle.script.specs.Whole.{Script, accepted, bad, readScript}
 use Rattle.script.proofs.Few.{few-events}

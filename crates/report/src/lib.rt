@@ -8,7 +8,7 @@ ghost use Rattle.base.specs.Spliced.{spliced};
 ghost use Rattle.answer.specs.Numbers.{numberOf};
 ghost use Rattle.sensor.specs.Single.{freshSensor};
 ghost use Rattle.band.specs.Rows.{freshRow, valueIn};
-ghost use Rattle.events.specs.Steps.{Takes};
+ghost use Rattle.events.specs.Parts.{Takes};
 ghost use Rattle.script.specs.Whole.{readScript};
 ghost use Rattle.run.specs.Outcome.{outcomeIn};
 ghost use Rattle.lines.specs.Parts.{Puts, Room};

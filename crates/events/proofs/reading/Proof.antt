@@ -1,4 +1,5 @@
-use Rattle.events.proofs.Arms.{row-place, no-sensor-reading, reading-replies}
+use Rattle.base.proofs.Rows.{row-place}
+use Rattle.events.proofs.Arms.{no-sensor-reading, reading-replies}
 use borrow.Author.Needs.{needs}
 use Rattle.events.proofs.reading.Statement.{statement}
 use Rattle.events.proofs.reading.Tie as tie

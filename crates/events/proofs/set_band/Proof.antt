@@ -1,4 +1,5 @@
-use Rattle.events.proofs.Arms.{row-place, no-band, band-replies}
+use Rattle.base.proofs.Rows.{row-place}
+use Rattle.events.proofs.Arms.{no-band, band-replies}
 use borrow.Author.Needs.{needs}
 use Rattle.events.proofs.set_band.Statement.{statement}
 use Rattle.events.proofs.set_band.Tie as tie

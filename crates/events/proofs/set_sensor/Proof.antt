@@ -1,4 +1,5 @@
-use Rattle.events.proofs.Arms.{row-place, no-sensor-set, set-replies}
+use Rattle.base.proofs.Rows.{row-place}
+use Rattle.events.proofs.Arms.{no-sensor-set, set-replies}
 use borrow.Author.Needs.{needs}
 use Rattle.events.proofs.set_sensor.Statement.{statement}
 use Rattle.events.proofs.set_sensor.Tie as tie
