@@ -16,7 +16,7 @@ use Rattle.expression.specs.declared.Expression.{Expression}
 use Rattle.expression.specs.Elements.{blank}
 use Rattle.token_reader.specs.declared.Tokens.{Tokens}
 use Rattle.token_reader.specs.Read.{elements, refusal, answerIn, expressionIn, Tells}
-use Rattle.token_reader.specs.Read.{Outcome as ReadOutcome}
+use Rattle.token_reader.specs.Read.{TokenOutcome}
 use Rattle.token_writer.specs.declared.Written.{Written}
 use Rattle.token_writer.specs.Write.{codesOf, Writes}
 use Rattle.token_writer.proofs.Arms.{codes-taken}
@@ -28,7 +28,7 @@ use Rattle.drive.specs.declared.Reply.{Reply}
 use Rattle.drive.specs.State.{headerFits, freshDrive, Freshens}
 use Rattle.drive.specs.Events.{Event, answerOf, stopsOf, eventOf, runOf, Replies}
 use Rattle.script.specs.Whole.{Script, accepted, bad, readScript}
-use Rattle.run.specs.Outcome.{Outcome, outcome, outcomeIn, runScript}
+use Rattle.run.specs.Outcome.{RunOutcome, outcome, outcomeIn, runScript}
 use Rattle.run.specs.declared.Ran.{Ran}
 use Rattle.report.specs.declared.Listed.{Listed}
 use Rattle.report.specs.Listing.{Told, told, toldIn, listOf}
@@ -54,7 +54,7 @@ pub list-told : (r : Listed) (after : List ℕ) (t : Told) (number : ℕ) → nu
     → told number (r .length) after ≡ t
 list-told r after t number e h = ap (λ (n : ℕ). told n (r .length) after) e ∙ h
 
-pub run-told : (r : Ran) (answers stops : List ℕ) (o : Outcome) (number : ℕ) → number ≡ numberOf (r .answer) → outcomeIn r answers stops ≡ o
+pub run-told : (r : Ran) (answers stops : List ℕ) (o : RunOutcome) (number : ℕ) → number ≡ numberOf (r .answer) → outcomeIn r answers stops ≡ o
     → ranTo number (r .place) (r .count) answers stops ≡ runTold o
 run-told r answers stops o number e h = ap (λ (n : ℕ). ranTo n (r .place) (r .count) answers stops) e ∙ ap runTold h
 
@@ -82,11 +82,11 @@ module _ (capacity bands sensors : ℕ) where
 
 -- ---- tokens read
 
-module _ (o : ReadOutcome) (r : Tokens) (h : Tells o r) (number : ℕ) (e : number ≡ numberOf (r .answer)) (lent : List ℕ) where
+module _ (o : TokenOutcome) (r : Tokens) (h : Tells o r) (number : ℕ) (e : number ≡ numberOf (r .answer)) (lent : List ℕ) where
   pub read-refused : number ≢ 0 → told number 0 lent ≡ readInto o lent
   read-refused q = go o (e ∙ h .answer)
     where
-      go : (o : ReadOutcome) → number ≡ answerIn o → told number 0 lent ≡ readInto o lent
+      go : (o : TokenOutcome) → number ≡ answerIn o → told number 0 lent ≡ readInto o lent
       go (elements es) a = absurd (q a)
       go (refusal n) a = ap (λ (k : ℕ). told k 0 lent) a
 
@@ -96,21 +96,21 @@ cellsOf es = es ++ replicate (32 - length es) blank
 
 module _ (r : Tokens) (codes : List ℕ) (c : codes ≡ codesOf (r .expression .elements)) where
   -- 32 cells hold at most 32 elements
-  pub few-read : (o : ReadOutcome) → Tells o r → length codes ≡ 32 → r .expression .count ≤ length codes
+  pub few-read : (o : TokenOutcome) → Tells o r → length codes ≡ 32 → r .expression .count ≤ length codes
   few-read o h l = rw (h .expression) (go o (c ∙ ap (λ (x : Expression). codesOf (x .elements)) (h .expression)))
     where
-      go : (o : ReadOutcome) → codes ≡ codesOf (expressionIn o .elements) → expressionIn o .count ≤ length codes
+      go : (o : TokenOutcome) → codes ≡ codesOf (expressionIn o .elements) → expressionIn o .count ≤ length codes
       go (elements es) k =
           let a : length codes ≡ length (cellsOf es) = ap length k ∙ length-map (cellsOf es) _ in
           omega (arith, a, l, length-append es (replicate (32 - length es) blank), length-replicate (32 - length es) blank)
       go (refusal n) k = omega arith
 
-  pub read-told : (o : ReadOutcome) (lent after : List ℕ) (number count answer : ℕ) → Tells o r → number ≡ numberOf (r .answer) → number ≡ 0
+  pub read-told : (o : TokenOutcome) (lent after : List ℕ) (number count answer : ℕ) → Tells o r → number ≡ numberOf (r .answer) → number ≡ 0
       → told answer count after ≡ listOf (take (r .expression .count) codes) lent → told answer count after ≡ readInto o lent
   read-told o lent after number count answer h e z w =
       go o (sym z ∙ e ∙ h .answer) (c ∙ ap (λ (x : Expression). codesOf (x .elements)) (h .expression)) (rw (h .expression) at w)
     where
-      go : (o : ReadOutcome) → 0 ≡ answerIn o → codes ≡ codesOf (expressionIn o .elements)
+      go : (o : TokenOutcome) → 0 ≡ answerIn o → codes ≡ codesOf (expressionIn o .elements)
           → told answer count after ≡ listOf (take (expressionIn o .count) codes) lent → told answer count after ≡ readInto o lent
       go (elements es) a k w =
           let p : take (length es) codes ≡ codesOf es =
@@ -200,7 +200,7 @@ pub some-kind : (script : Script) (kind : ℕ) (fields tokens : List ℕ) (event
 some-kind script kind fields tokens event t k h e w = rw (le-leb 1 kind k, le-leb kind 7 h) (w ∙ ap (λ (x : Kind). eventOn script (eventOf x tokens)) e)
 
 -- what is left of a run: its answer and its drive
-abbrev answerAndDrive : Outcome → ℕ × Drive
+abbrev answerAndDrive : RunOutcome → ℕ × Drive
 answerAndDrive (outcome answer place count drive answers stops) = (answer, drive)
 
 abbrev leftBy : Script → ℕ × Drive

@@ -6,7 +6,7 @@ use lib.Dec.{eqb, leb}
 use lib.ListN.{length, getD}
 use Rattle.sensor.specs.declared.columns.SensorColumns.{SensorColumns}
 use Rattle.token_reader.specs.Read.{elements, refusal}
-use Rattle.token_reader.specs.Read.{Outcome as ReadOutcome}
+use Rattle.token_reader.specs.Read.{TokenOutcome}
 use Rattle.token_writer.specs.Write.{codesOf, elementsOf, bytesOf, writeAnswer, writtenAfter, outputAfter}
 use Rattle.band.specs.declared.BandColumns.{BandColumns}
 use Rattle.drive.specs.declared.Kind.{Kind}
@@ -14,18 +14,18 @@ use Rattle.drive.specs.declared.Kind.the-variants as K
 use Rattle.drive.specs.State.{headerFits, freshDrive}
 use Rattle.drive.specs.Events.{Event, answerOf, stopsOf, eventOf, runOf}
 use Rattle.script.specs.Whole.{Script, accepted, bad}
-use Rattle.run.specs.Outcome.{Outcome, outcome}
+use Rattle.run.specs.Outcome.{RunOutcome, outcome}
 use Rattle.report.specs.Listing.{Told, told, listOf}
 
 -- a run: answer, place, number of events and the two buffers; its drive is not handed over
 pub data RunTold : Type 0 where
   ranTo : (answer place count : ℕ) (answers stops : List ℕ) → RunTold
 
-abbrev pub runTold : Outcome → RunTold
+abbrev pub runTold : RunOutcome → RunTold
 runTold (outcome answer place count drive answers stops) = ranTo answer place count answers stops
 
 -- tokens read: the elements from the start of the output, 11 where they do not fit ("short buffer"); or 2, 3 or 4, and all as it was
-abbrev pub readInto : ReadOutcome → List ℕ → Told
+abbrev pub readInto : TokenOutcome → List ℕ → Told
 readInto (elements es) lent = listOf (codesOf es) lent
 readInto (refusal answer) lent = told answer 0 lent
 

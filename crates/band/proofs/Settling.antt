@@ -7,7 +7,7 @@ use Rattle.base.proofs.Cases.{cond-true, neither}
 use Rattle.band.specs.declared.Side.{Side}
 use Rattle.band.specs.declared.Side.the-variants.{Read, Write}
 use Rattle.band.specs.declared.Row.{Row}
-use Rattle.band.specs.Rows.{freshRow, closedOn, openOn, isOpen, valueIn, withLocked, lockUnder, settleRow, inSet, resetRow, locksBy}
+use Rattle.band.specs.Rows.{freshRow, closedOn, lockableOn, isLockable, valueIn, withLocked, lockUnder, settleRow, inSet, resetRow, locksBy}
 
 -- ---- what the code's arms come to
 
@@ -15,23 +15,23 @@ pub settled : (cs : List Bool) (row r : Row) (v : Bool) → v ≡ valueIn cs row
 unfolding settleRow
 settled cs row r v e q = q ∙ ap (λ (x : Bool). lockUnder x row) e
 
--- a side that is not open stays as it is
-shut : (locked enabled v : Bool) → (enabled && not locked) ≡ false → locked ≡ (locked || (enabled && v))
-shut true enabled v e = refl
-shut false true v e = absurd (false≢true (sym e))
-shut false false v e = refl
+-- a side that is not lockable stays as it is
+steady : (locked enabled v : Bool) → (enabled && not locked) ≡ false → locked ≡ (locked || (enabled && v))
+steady true enabled v e = refl
+steady false true v e = absurd (false≢true (sym e))
+steady false false v e = refl
 
--- a row with no open side stays as it is
-shut-row : (v : Bool) (row : Row) → isOpen row ≡ false → row ≡ lockUnder v row
-shut-row v row e =
-    let h = neither (openOn Read row) (openOn Write row) e in
+-- a row with no lockable side stays as it is
+steady-row : (v : Bool) (row : Row) → isLockable row ≡ false → row ≡ lockUnder v row
+steady-row v row e =
+    let h = neither (lockableOn Read row) (lockableOn Write row) e in
     ap₂ (λ (a b : Bool). withLocked a b row)
-    (shut (row .«read_locked») (row .«read_lock_enabled») v (h .0))
-    (shut (row .«write_locked») (row .«write_lock_enabled») v (h .1))
+    (steady (row .«read_locked») (row .«read_lock_enabled») v (h .0))
+    (steady (row .«write_locked») (row .«write_lock_enabled») v (h .1))
 
-pub not-open : (cs : List Bool) (row : Row) (t : Bool) → t ≡ isOpen row → t ≡ false → row ≡ settleRow cs row
+pub not-lockable : (cs : List Bool) (row : Row) (t : Bool) → t ≡ isLockable row → t ≡ false → row ≡ settleRow cs row
 unfolding settleRow
-not-open cs row t p e = shut-row (valueIn cs row) row (sym p ∙ e)
+not-lockable cs row t p e = steady-row (valueIn cs row) row (sym p ∙ e)
 
 pub reset-locks : (type : ℕ) (row r : Row) (t : Bool) → t ≡ inSet (row .«lock_on_reset») type → t ≡ true → r ≡ lockUnder true row
     → r ≡ resetRow type row
@@ -75,13 +75,13 @@ reset-settle cs type row = go (inSet (row .«lock_on_reset») type)
         (once (row .«write_locked») (row .«write_lock_enabled») (valueIn cs row))
     go false = refl
 
--- a row with no open side is reset to itself
-pub shut-reset : (type : ℕ) (row : Row) → isOpen row ≡ false → resetRow type row ≡ row
+-- a row with no lockable side is reset to itself
+pub steady-reset : (type : ℕ) (row : Row) → isLockable row ≡ false → resetRow type row ≡ row
 unfolding resetRow
-shut-reset type row e = go (inSet (row .«lock_on_reset») type)
+steady-reset type row e = go (inSet (row .«lock_on_reset») type)
   where
     go : (b : Bool) → cond b (lockUnder true row) row ≡ row
-    go true = sym (shut-row true row e)
+    go true = sym (steady-row true row e)
     go false = refl
 
 lock-again : (locked enabled v : Bool) → ((locked || (enabled && v)) || (enabled && v)) ≡ (locked || (enabled && v))

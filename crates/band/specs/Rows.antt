@@ -34,12 +34,12 @@ abbrev pub closedOn : Side → Row → Bool
 closedOn side row = enabledOn side row && lockedOn side row
 
 -- enabled and not locked yet
-abbrev pub openOn : Side → Row → Bool
-openOn side row = enabledOn side row && not (lockedOn side row)
+abbrev pub lockableOn : Side → Row → Bool
+lockableOn side row = enabledOn side row && not (lockedOn side row)
 
 -- some side is enabled and not locked yet
-abbrev pub isOpen : Row → Bool
-isOpen row = openOn Read row || openOn Write row
+abbrev pub isLockable : Row → Bool
+isLockable row = lockableOn Read row || lockableOn Write row
 
 -- the value of the row's expression under the sensors' conditions
 abbrev pub valueIn : List Bool → Row → Bool

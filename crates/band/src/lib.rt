@@ -7,7 +7,7 @@ ghost use Rattle.base.specs.Columns.{named, within};
 ghost use Rattle.band.specs.Rows.{
   freshRow,
   closedOn,
-  isOpen,
+  isLockable,
   valueIn,
   withLocked,
   lockUnder,
@@ -123,8 +123,8 @@ impl Row {
     }
 
     // Whether some side is enabled and not locked: only then can settling or a reset change the row.
-    pub fn open(self) -> bool
-        ensures { λ r. ⌜ r ≡ isOpen self ⌝ }
+    pub fn lockable(self) -> bool
+        ensures { λ r. ⌜ r ≡ isLockable self ⌝ }
     {
         let read = and(self.read_lock_enabled, negated(self.read_locked));
         let write = and(self.write_lock_enabled, negated(self.write_locked));
@@ -132,10 +132,10 @@ impl Row {
     }
 
     // Whether a reset of a type and then settling lock what is enabled: the type is in the row's set, or the expression is TRUE.
-    pub fn locks(self, kind: u64, conditions: [bool; 16]) -> bool
-        ensures { λ r. ⌜ r ≡ locksBy conditions kind self ⌝ }
+    pub fn locks(self, reset_type: u64, conditions: [bool; 16]) -> bool
+        ensures { λ r. ⌜ r ≡ locksBy conditions «reset_type» self ⌝ }
     {
-        if in_set(self.lock_on_reset, kind) {
+        if in_set(self.lock_on_reset, reset_type) {
             return true;
         }
         self.value(conditions)
@@ -152,7 +152,7 @@ impl Row {
     pub fn settle(self, conditions: [bool; 16]) -> Row
         ensures { λ r. ⌜ r ≡ settleRow conditions self ⌝ }
     {
-        if self.open() {
+        if self.lockable() {
             let v = self.value(conditions);
             return self.lock_under(v);
         }
@@ -160,10 +160,10 @@ impl Row {
     }
 
     // The row after a reset of a type: 0 power cycle, 1 hardware, 2 hot plug. Another type is in no set.
-    pub fn reset(self, kind: u64) -> Row
-        ensures { λ r. ⌜ r ≡ resetRow kind self ⌝ }
+    pub fn reset(self, reset_type: u64) -> Row
+        ensures { λ r. ⌜ r ≡ resetRow «reset_type» self ⌝ }
     {
-        if in_set(self.lock_on_reset, kind) {
+        if in_set(self.lock_on_reset, reset_type) {
             return self.lock_under(true);
         }
         self
@@ -234,10 +234,10 @@ impl BandColumns {
 }
 
 // Whether a LockOnReset set holds a reset type.
-fn in_set(set: u64, kind: u64) -> bool
-    ensures { λ r. ⌜ r ≡ inSet set kind ⌝ }
+fn in_set(set: u64, reset_type: u64) -> bool
+    ensures { λ r. ⌜ r ≡ inSet set «reset_type» ⌝ }
 {
-    match kind {
+    match reset_type {
         0 => has(set, 1),
         1 => has(set, 2),
         2 => has(set, 4),

@@ -6,13 +6,13 @@ use band::Row;
 use band::Side;
 
 // Each row after a reset of a type.
-pub fn reset_all(rows: [Row; 16], kind: u64) -> [Row; 16]
-    ensures { λ r. ⌜ r ≡ map (resetRow kind) rows ⌝ }
+pub fn reset_all(rows: [Row; 16], reset_type: u64) -> [Row; 16]
+    ensures { λ r. ⌜ r ≡ map (resetRow «reset_type») rows ⌝ }
 {
     let mut out = rows;
     for i in 0..16 {
         let row = out[i];
-        let after = row.reset(kind);
+        let after = row.reset(reset_type);
         out[i] = after;
     }
     out

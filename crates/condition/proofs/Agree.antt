@@ -17,7 +17,7 @@ use Rattle.base.proofs.Lists.{getD-map}
 use Rattle.base.proofs.Rows.{apart, modify-agree, modify-other, modify-keeps, length-modify}
 use Rattle.sensor.specs.declared.single.Sensor.{Sensor}
 use Rattle.sensor.specs.Single.{freshSensor, readingRefusals, readingOf, powerCycleOf}
-use Rattle.sensor.specs.Single.{tickOf as sensorTick}
+use Rattle.sensor.specs.Single.{sensorTick}
 use Rattle.sensor.specs.Columns.{setRefusals, setOf}
 use Rattle.sensor.proofs.Motion.{fresh-tick, fresh-power-cycle}
 use Rattle.sensors.specs.Sixteen.{conditionsBelow}
@@ -26,7 +26,7 @@ use Rattle.expression.specs.declared.Element.{Element}
 use Rattle.expression.specs.Elements.{elementsIn}
 use Rattle.evaluator.specs.Value.{valueOf, mentions}
 use Rattle.evaluator.proofs.Mentions.{value-same}
-use Rattle.token_reader.specs.Read.{Outcome, elements, refusal, readTokens, expressionIn}
+use Rattle.token_reader.specs.Read.{TokenOutcome, elements, refusal, readTokens, expressionIn}
 use Rattle.band.specs.declared.Row.{Row}
 use Rattle.band.specs.declared.BandColumns.{BandColumns}
 use Rattle.band.specs.Rows.{freshRow, valueIn, lockUnder, settleRow, inSet, resetRow}
@@ -224,7 +224,7 @@ module _ (B N : ℕ → Bool) where
   unfolding formedRow refersIn mentions any
   formed-within c bytes x old new = go (named 32 (c .mask)) (readTokens bytes) new
     where
-      go : (g : Bool) (o : Outcome) → ((r : ℕ) → (g && mentionedIn r o) ≡ true → N r ≡ true)
+      go : (g : Bool) (o : TokenOutcome) → ((r : ℕ) → (g && mentionedIn r o) ≡ true → N r ≡ true)
           → (r : ℕ) → mentions r (elementsIn (cond g (expressionIn o) (x .expression))) ≡ true → N r ≡ true
       go false o new r t = old r t
       go true (elements l) new r t = new r (rw (take-at l _ (length l) refl) at t)

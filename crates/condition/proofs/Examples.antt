@@ -8,7 +8,7 @@ use Rattle.base.specs.Ticks.{ticks}
 use Rattle.phases.specs.Phases.{moveOf}
 use Rattle.sensor.specs.Level.{levelRule}
 use Rattle.sensor.specs.Single.{freshSensor, judgeOf, turnedTo, readingOf, enableOf}
-use Rattle.sensor.specs.Single.{stepOf as sensorStep, tickOf as sensorTick}
+use Rattle.sensor.specs.Single.{afterCause, sensorTick}
 use Rattle.sensor.specs.Columns.{storedOf, switchedOf, setOf}
 use Rattle.sensor.specs.Columns.{columnsFit as sensorColumnsFit}
 use Rattle.sensors.specs.Sixteen.{conditionsBelow}
@@ -139,7 +139,7 @@ record Worked : Type 0 where
   no-tokens : compared 1 (bandOn 1 32 0 0 (0 ∷ rowZero) ∷ reading 0 7 ∷ []) ≡ bandOn 1 32 0 0 (0 ∷ rowZero) ∷ []
 
 worked : Worked
-unfolding any ticks moveOf levelRule freshSensor judgeOf turnedTo readingOf enableOf sensorStep sensorTick storedOf switchedOf setOf sensorColumnsFit conditionsBelow evaluate valueOf mentions startsWith partIn isEnd readElements readList readTokens freshRow settleRow resetRow formedRow bandColumnsFit anyBlock bandOf freshDrive conditionsOf settleOf tickOf answerOf actOf stepOf runOf tickMoments moments unlocks locks refersIn namedIn stays keep compared answersTo flagAfter
+unfolding any ticks moveOf levelRule freshSensor judgeOf turnedTo readingOf enableOf afterCause sensorTick storedOf switchedOf setOf sensorColumnsFit conditionsBelow evaluate valueOf mentions startsWith partIn isEnd readElements readList readTokens freshRow settleRow resetRow formedRow bandColumnsFit anyBlock bandOf freshDrive conditionsOf settleOf tickOf answerOf actOf stepOf runOf tickMoments moments unlocks locks refersIn namedIn stays keep compared answersTo flagAfter
 worked = record {
   script-list = refl;
   script-answers = refl;

@@ -6,14 +6,14 @@ use lib.Dec.{eqb}
 use Rattle.base.specs.Lists.{any}
 use Rattle.base.specs.Columns.{named}
 use Rattle.evaluator.specs.Value.{mentions}
-use Rattle.token_reader.specs.Read.{Outcome, elements, refusal, readTokens}
+use Rattle.token_reader.specs.Read.{TokenOutcome, elements, refusal, readTokens}
 use Rattle.band.specs.declared.BandColumns.{BandColumns}
 use Rattle.drive.specs.declared.Drive.{Drive}
 use Rattle.drive.specs.Events.{Event, reading, elapse, reset, sensorSet, bandSet, geometry, transfer, answerOf, stepOf}
 use Rattle.condition.specs.History.{ownSet}
 
 -- "that reads as tokens .. refers to that sensor's row"
-abbrev pub mentionedIn : ℕ → Outcome → Bool
+abbrev pub mentionedIn : ℕ → TokenOutcome → Bool
 mentionedIn row (elements es) = mentions row es
 mentionedIn row (refusal n) = false
 

@@ -16,13 +16,13 @@ use Rattle.drive.specs.Events.{Event, shapeOf, ifTicking, ifResetting, ifSettin
 -- ---- the moments of a list of events
 
 -- "A moment is the end of an event or of a tick in an elapse."
-pub data Cause : Type 0 where
-  ended : Event → Cause
-  ticked : Cause
+pub data MomentEnd : Type 0 where
+  ended : Event → MomentEnd
+  ticked : MomentEnd
 
 -- with the drive before the event or the tick, and the drive after it
 pub record Moment : Type 0 where
-  pub cause : Cause
+  pub cause : MomentEnd
   pub before : Drive
   pub after : Drive
 
@@ -47,7 +47,7 @@ moments d (e ∷ es) =
 
 -- ---- the three things that lock a side, and the one that unlocks it
 
-abbrev pub byEvent : (Event → Bool) → Cause → Bool
+abbrev pub byEvent : (Event → Bool) → MomentEnd → Bool
 byEvent passes (ended e) = passes e
 byEvent passes ticked = false
 

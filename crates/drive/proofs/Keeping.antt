@@ -12,7 +12,7 @@ use Rattle.base.proofs.Lists.{getD-same}
 use Rattle.base.proofs.Rows.{length-modify, modify-keeps, map-keeps}
 use Rattle.sensor.specs.declared.single.Sensor.{Sensor}
 use Rattle.sensor.specs.Single.{freshSensor, readingOf, powerCycleOf}
-use Rattle.sensor.specs.Single.{tickOf as sensorTick}
+use Rattle.sensor.specs.Single.{sensorTick}
 use Rattle.sensor.specs.Columns.{setOf}
 use Rattle.sensor.proofs.Keeping.{Keeps}
 use Rattle.band.specs.declared.Row.{Row}

@@ -8,8 +8,8 @@ use mathlib.Core.List.{List, [], _∷_, map}
 use Rattle.sensor.specs.declared.single.Sensor.{Sensor}
 use Rattle.sensors.specs.Sixteen.{conditionsBelow}
 use Rattle.band.specs.declared.Row.{Row}
-use Rattle.band.specs.Rows.{isOpen, settleRow}
-use Rattle.band.proofs.Settling.{not-open, settle-again}
+use Rattle.band.specs.Rows.{isLockable, settleRow}
+use Rattle.band.proofs.Settling.{not-lockable, settle-again}
 use Rattle.drive.specs.declared.Drive.{Drive}
 use Rattle.drive.specs.State.{withRows, withSensors, conditionsOf, settleOf, tickOf, fallOf}
 
@@ -33,11 +33,11 @@ row-settles d₀ d x cs i z row s h e q = rw q (record {
   rest = ap (λ (y : Drive). withRows (set (d .rows) i row) y) (s .rest);
 })
 
-pub row-stays : (d₀ d x : Drive) (cs : List Bool) (i : ℕ) (z : Row) (t : Bool) → Settled d₀ cs d i → i < 16 → t ≡ isOpen (getD (d .rows) i z)
+pub row-stays : (d₀ d x : Drive) (cs : List Bool) (i : ℕ) (z : Row) (t : Bool) → Settled d₀ cs d i → i < 16 → t ≡ isLockable (getD (d .rows) i z)
     → t ≡ false → x ≡ d → Settled d₀ cs x (i + 1)
 row-stays d₀ d x cs i z t s h p e q = rw q (record {
   conditions = s .conditions;
-  rows = map-skip (settleRow cs) 16 (d₀ .rows) (d .rows) i z (s .rows) h (not-open cs (getD (d .rows) i z) t p e);
+  rows = map-skip (settleRow cs) 16 (d₀ .rows) (d .rows) i z (s .rows) h (not-lockable cs (getD (d .rows) i z) t p e);
   rest = s .rest;
 })
 

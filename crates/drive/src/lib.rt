@@ -163,7 +163,7 @@ impl Drive {
         let conditions = self.conditions();
         for i in 0..16 {
             let row = self.rows[i];
-            if row.open() {
+            if row.lockable() {
                 let settled = row.settle(conditions);
                 self.rows[i] = settled;
             }

@@ -8,7 +8,7 @@ use Rattle.base.specs.Ticks.{stops}
 use Rattle.base.proofs.Jumps.{Jumps, stops-bound}
 use Rattle.sensor.specs.declared.single.Sensor.{Sensor}
 use Rattle.sensor.specs.Single.{loweredBy}
-use Rattle.sensor.specs.Single.{tickOf as sensorTick}
+use Rattle.sensor.specs.Single.{sensorTick}
 use Rattle.sensors.proofs.Quiet.{AllQuiet, sensors-jump, lowered-conditions, stop-uses}
 use Rattle.drive.specs.declared.Drive.{Drive}
 use Rattle.drive.specs.State.{withSensors, settleOf, tickOf, stopNext}

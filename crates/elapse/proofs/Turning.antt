@@ -8,7 +8,7 @@ use Rattle.base.specs.Ticks.{stops as stopsIn}
 use Rattle.base.proofs.Turns.{Turnable, QuietMost, Running, run-state, run-stops}
 use Rattle.base.proofs.Turns.{turned as turned-any}
 use Rattle.sensor.specs.Single.{loweredBy}
-use Rattle.sensor.specs.Single.{tickOf as sensorTick}
+use Rattle.sensor.specs.Single.{sensorTick}
 use Rattle.sensors.specs.declared.Turn.{Turn}
 use Rattle.sensors.specs.Sixteen.{quietTicks, tickAndQuiet, turnOf}
 use Rattle.sensors.proofs.Quiet.{lowered-conditions, lowered-running}

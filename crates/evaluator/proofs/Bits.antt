@@ -12,7 +12,7 @@ use Rattle.base.specs.Lists.{oneIf}
 use Rattle.base.proofs.Lists.{oneIf-le}
 use Rattle.expression.specs.declared.Part.{Part}
 use Rattle.expression.specs.declared.Part.the-variants.{Reference, Operator}
-use Rattle.evaluator.specs.Value.{conditionAt, onTwo, onOne, operatorOf, stepOf, onStack, endOf, orFalse}
+use Rattle.evaluator.specs.Value.{conditionAt, onTwo, onOne, operatorOf, putElement, onStack, endOf, orFalse}
 use Rattle.evaluator.specs.Stack.{bitsOf, heldAs, Does}
 
 pub absent : (cs : List Bool) (row : ℕ) → length cs ≡ 16 → 16 ≤ row → false ≡ conditionAt cs row
@@ -100,10 +100,10 @@ code-other code n p q t (some s) e = rw (ne-eqb code 0 p, ne-eqb code 1 q, ne-eq
 
 -- an element, by its part
 pub reference : (cs : List Bool) (p : Part) (row n r : ℕ) (v : Bool) → p ≡ Reference row → v ≡ conditionAt cs row
-    → Does (λ s. some (v ∷ s)) n r → Does (stepOf cs p) n r
+    → Does (λ s. some (v ∷ s)) n r → Does (putElement cs p) n r
 reference cs p row n r v e w d = rw e (rw w at d)
 
-pub operator : (cs : List Bool) (p : Part) (code n r : ℕ) → p ≡ Operator code → Does (operatorOf code) n r → Does (stepOf cs p) n r
+pub operator : (cs : List Bool) (p : Part) (code n r : ℕ) → p ≡ Operator code → Does (operatorOf code) n r → Does (putElement cs p) n r
 operator cs p code n r e d = rw e d
 
 -- an element adds at most one bit
@@ -125,7 +125,7 @@ coded-bits code s = go (eqb code 0) (eqb code 1) (eqb code 2)
     go false false true = one-bits not s
     go false false false = omega arith
 
-pub one-more : (cs : List Bool) (p : Part) (held : Option (List Bool)) → heldAs (onStack (stepOf cs p) held) ≤ heldAs held * 2 + 1
+pub one-more : (cs : List Bool) (p : Part) (held : Option (List Bool)) → heldAs (onStack (putElement cs p) held) ≤ heldAs held * 2 + 1
 one-more cs p none = omega arith
 one-more cs (Reference row) (some s) = omega (arith, oneIf-le (conditionAt cs row))
 one-more cs (Operator code) (some s) = coded-bits code s

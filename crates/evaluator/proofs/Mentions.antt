@@ -10,7 +10,7 @@ use Rattle.base.proofs.Cases.{or-yes}
 use Rattle.expression.specs.declared.Part.{Part}
 use Rattle.expression.specs.declared.Part.the-variants.{Reference, Operator}
 use Rattle.expression.specs.declared.Element.{Element}
-use Rattle.evaluator.specs.Value.{conditionAt, stepOf, onStack, evaluate, resultOf, orFalse, valueOf, refersTo, mentions}
+use Rattle.evaluator.specs.Value.{conditionAt, putElement, onStack, evaluate, resultOf, orFalse, valueOf, refersTo, mentions}
 
 or-second : (a b : Bool) → b ≡ true → (a || b) ≡ true
 or-second true b e = refl
@@ -18,7 +18,7 @@ or-second false b e = e
 
 module _ (cs ds : List Bool) where
   step-agree : (p : Part) (stack : Option (List Bool)) → ((row : ℕ) → refersTo row p ≡ true → conditionAt cs row ≡ conditionAt ds row)
-      → onStack (stepOf cs p) stack ≡ onStack (stepOf ds p) stack
+      → onStack (putElement cs p) stack ≡ onStack (putElement ds p) stack
   step-agree p none h = refl
   step-agree (Reference row) (some s) h = rw (h row (eq-eqb row row refl))
   step-agree (Operator code) (some s) h = refl
@@ -29,7 +29,7 @@ module _ (cs ds : List Bool) where
   agree [] stack h = refl
   agree (e ∷ es) stack h =
       rw (step-agree (e .part) stack (λ row q. h row (sym (or-yes (refersTo row (e .part)) (mentions row es) q))))
-      (agree es (onStack (stepOf ds (e .part)) stack) (λ row q. h row (or-second (refersTo row (e .part)) (mentions row es) q)))
+      (agree es (onStack (putElement ds (e .part)) stack) (λ row q. h row (or-second (refersTo row (e .part)) (mentions row es) q)))
 
   pub value-agree : (es : List Element) → ((row : ℕ) → mentions row es ≡ true → conditionAt cs row ≡ conditionAt ds row)
       → resultOf cs es ≡ resultOf ds es

@@ -12,7 +12,7 @@ use lib.ListN.{getD, length, take, drop, length-take, drop-of-length-le}
 use lib.Pow.{pow-mono}
 use lib.Seq.{drop-cons, getD-take}
 use Rattle.expression.specs.declared.Element.{Element}
-use Rattle.evaluator.specs.Value.{stepOf, onStack, evaluate, resultOf, orFalse, valueOf}
+use Rattle.evaluator.specs.Value.{putElement, onStack, evaluate, resultOf, orFalse, valueOf}
 use Rattle.evaluator.specs.Stack.{heldAs, Does}
 use Rattle.evaluator.proofs.Bits.{ended, one-more}
 
@@ -35,13 +35,13 @@ module _ (es : List Element) (cs : List Bool) (count : ℕ) where
   pub room : (i n : ℕ) → Ran es cs count i n → i < 32 → n < 4294967296
   room i n h k = omega (arith, h .few, pow-mono {i = i + 1} {j = 32} (omega arith))
 
-  pub again : (i n r : ℕ) (d : Element) → Ran es cs count i n → i < 32 → i < count → Does (stepOf cs (getD es i d .part)) n r
+  pub again : (i n r : ℕ) (d : Element) → Ran es cs count i n → i < 32 → i < count → Does (putElement cs (getD es i d .part)) n r
       → Ran es cs count (i + 1) r
   unfolding evaluate
   again i n r d h k more t = record {
     low = omega arith;
     long = h .long;
-    held = onStack (stepOf cs (getD es i d .part)) (h .held);
+    held = onStack (putElement cs (getD es i d .part)) (h .held);
     bits = t (h .held) (h .bits);
     few =
         rw double

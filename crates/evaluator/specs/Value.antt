@@ -29,9 +29,9 @@ abbrev pub operatorOf : ℕ → List Bool → Option (List Bool)
 operatorOf code stack = cond (eqb code 0) (onTwo _&&_ stack) (cond (eqb code 1) (onTwo _||_ stack) (cond (eqb code 2) (onOne not stack) none))
 
 -- one element on the stack
-abbrev pub stepOf : List Bool → Part → List Bool → Option (List Bool)
-stepOf conditions (Reference row) stack = some (conditionAt conditions row ∷ stack)
-stepOf conditions (Operator code) stack = operatorOf code stack
+abbrev pub putElement : List Bool → Part → List Bool → Option (List Bool)
+putElement conditions (Reference row) stack = some (conditionAt conditions row ∷ stack)
+putElement conditions (Operator code) stack = operatorOf code stack
 
 -- once malformed, always malformed
 abbrev pub onStack : (List Bool → Option (List Bool)) → Option (List Bool) → Option (List Bool)
@@ -48,7 +48,7 @@ endOf (some (v ∷ w ∷ stack)) = none
 -- "Postfix."
 unfoldable pub evaluate : List Bool → List Element → Option (List Bool) → Option Bool
 evaluate conditions [] stack = endOf stack
-evaluate conditions (e ∷ es) stack = evaluate conditions es (onStack (stepOf conditions (e .part)) stack)
+evaluate conditions (e ∷ es) stack = evaluate conditions es (onStack (putElement conditions (e .part)) stack)
 
 -- TRUE, FALSE or, as none, malformed
 abbrev pub resultOf : List Bool → List Element → Option Bool

@@ -5,7 +5,7 @@ ghost use mathlib.Core.Path.{_≡_};
 ghost use mathlib.Core.Bool.{_&&_, _||_, not};
 ghost use Prim.Native.Nat.{_<_};
 ghost use lib.ListN.{take};
-ghost use Rattle.evaluator.specs.Value.{conditionAt, onTwo, onOne, operatorOf, stepOf, valueOf};
+ghost use Rattle.evaluator.specs.Value.{conditionAt, onTwo, onOne, operatorOf, putElement, valueOf};
 ghost use mathlib.Core.List.{_∷_};
 ghost use mathlib.Core.Option.{some};
 ghost use Rattle.evaluator.specs.Stack.{Does};
@@ -85,7 +85,7 @@ fn operate(stack: u64, code: u8) -> u64
 // One element.
 fn step(stack: u64, part: Part, conditions: [bool; 16]) -> u64
     requires { ⌜ stack < 4294967296 ⌝ }
-    ensures { λ r. ⌜ Does (stepOf conditions part) stack r ⌝ }
+    ensures { λ r. ⌜ Does (putElement conditions part) stack r ⌝ }
 {
     match part {
         Part::Reference(row) => push(stack, condition(conditions, row)),

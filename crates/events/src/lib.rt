@@ -120,26 +120,26 @@ pub fn elapse(drive: Drive, ticks: u64) -> Reply
 }
 
 // The sensors after a reset: a power cycle touches them, the other types do not.
-fn cycled(sensors: [Sensor; 16], kind: u64) -> [Sensor; 16]
-    ensures { λ r. ⌜ r ≡ cond (eqb kind 0) (map powerCycleOf sensors) sensors ⌝ }
+fn cycled(sensors: [Sensor; 16], reset_type: u64) -> [Sensor; 16]
+    ensures { λ r. ⌜ r ≡ cond (eqb «reset_type» 0) (map powerCycleOf sensors) sensors ⌝ }
 {
-    if kind == 0 {
+    if reset_type == 0 {
         return sensors::power_cycle_all(sensors);
     }
     sensors
 }
 
 // 3 reset
-pub fn reset(drive: Drive, kind: u64) -> Reply
-    ensures { λ r. ⌜ Replies drive (E.reset kind) r ⌝ }
+pub fn reset(drive: Drive, reset_type: u64) -> Reply
+    ensures { λ r. ⌜ Replies drive (E.reset «reset_type») r ⌝ }
 {
-    if 2 < kind {
+    if 2 < reset_type {
         return refuse(drive, Answer::OutOfRange);
     }
     let rows = drive.rows;
-    let locked = bands::reset_all(rows, kind);
+    let locked = bands::reset_all(rows, reset_type);
     let all = drive.sensors;
-    let after = cycled(all, kind);
+    let after = cycled(all, reset_type);
     let next = drive.with_rows(locked);
     grant(next.with_sensors(after))
 }
@@ -233,7 +233,7 @@ pub fn apply(drive: Drive, kind: Kind, tokens: &[u8]) -> Reply
     match kind {
         Kind::Reading(sensor, value) => reading(drive, sensor, value),
         Kind::Elapse(ticks) => elapse(drive, ticks),
-        Kind::Reset(kind) => reset(drive, kind),
+        Kind::Reset(reset_type) => reset(drive, reset_type),
         Kind::SensorSet(sensor, columns) => set_sensor(drive, sensor, columns),
         Kind::BandSet(band, columns) => set_band(drive, band, columns, tokens),
         Kind::Geometry(band, start, length) => set_geometry(drive, band, start, length),

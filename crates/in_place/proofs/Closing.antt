@@ -11,8 +11,8 @@ use Rattle.base.proofs.Cases.{neither}
 use Rattle.base.proofs.Lists.{mapTo, mapTo-next, mapTo-all, set-same}
 use Rattle.sensors.specs.Sixteen.{conditionsBelow}
 use Rattle.band.specs.declared.Row.{Row}
-use Rattle.band.specs.Rows.{isOpen, withLocked, lockUnder, settleRow, resetRow, locksBy}
-use Rattle.band.proofs.Settling.{not-open, shut-reset, reset-settle}
+use Rattle.band.specs.Rows.{isLockable, withLocked, lockUnder, settleRow, resetRow, locksBy}
+use Rattle.band.proofs.Settling.{not-lockable, steady-reset, reset-settle}
 use Rattle.drive.specs.declared.Drive.{Drive}
 use Rattle.drive.specs.State.{withRows, conditionsOf, settleOf}
 use Rattle.drive.specs.Events.{Event}
@@ -23,9 +23,9 @@ use Rattle.in_place.proofs.Storing.{Ran, Half, finishOf}
 unfoldable pub closeRow : List Bool → ℕ → Row → Row
 closeRow cs t row = settleRow cs (resetRow t row)
 
-close-shut : (cs : List Bool) (t : ℕ) (row : Row) → isOpen row ≡ false → row ≡ closeRow cs t row
+close-steady : (cs : List Bool) (t : ℕ) (row : Row) → isLockable row ≡ false → row ≡ closeRow cs t row
 unfolding closeRow
-close-shut cs t row e = not-open cs row (isOpen row) refl e ∙ ap (settleRow cs) (sym (shut-reset t row e))
+close-steady cs t row e = not-lockable cs row (isLockable row) refl e ∙ ap (settleRow cs) (sym (steady-reset t row e))
 
 close-locks : (cs : List Bool) (t : ℕ) (row new : Row) → locksBy cs t row ≡ true → new ≡ lockUnder true row → new ≡ closeRow cs t row
 unfolding closeRow
@@ -43,8 +43,8 @@ close-stays cs t row e =
     none false true = refl
     none false false = refl
 
-locked-shut : (row : Row) → isOpen (lockUnder true row) ≡ false
-locked-shut row = ap₂ (λ (a b : Bool). a || b) (side (row .«read_locked») (row .«read_lock_enabled»)) (side (row .«write_locked») (row .«write_lock_enabled»))
+locked-steady : (row : Row) → isLockable (lockUnder true row) ≡ false
+locked-steady row = ap₂ (λ (a b : Bool). a || b) (side (row .«read_locked») (row .«read_lock_enabled»)) (side (row .«write_locked») (row .«write_lock_enabled»))
   where
     side : (locked enabled : Bool) → (enabled && not (locked || (enabled && true))) ≡ false
     side locked false = refl
@@ -56,39 +56,39 @@ locked-shut row = ap₂ (λ (a b : Bool). a || b) (side (row .«read_locked») (
 -- the rows before j are closed, and none of them is open where the flag is not set
 pub record Closing (y : Drive) (t : ℕ) (cs : List Bool) (x : Drive) (o : Bool) (j : ℕ) : Type 0 where
   pub drive : x ≡ withRows (mapTo (closeRow cs t) j (y .rows)) y
-  pub flag : o ≡ false → any isOpen (take j (x .rows)) ≡ false
+  pub flag : o ≡ false → any isLockable (take j (x .rows)) ≡ false
 
 pub close-begin : (y : Drive) (t : ℕ) (cs : List Bool) (o : Bool) → Closing y t cs y o 0
 unfolding any
 close-begin y t cs o = record { drive = refl; flag = λ _. refl }
 
-shut-next : (j : ℕ) (rows : List Row) (v : Row) → any isOpen (take j rows) ≡ false → isOpen v ≡ false → any isOpen (take (suc j) (set rows j v)) ≡ false
+steady-next : (j : ℕ) (rows : List Row) (v : Row) → any isLockable (take j rows) ≡ false → isLockable v ≡ false → any isLockable (take (suc j) (set rows j v)) ≡ false
 unfolding any
-shut-next j [] v e f = refl
-shut-next zero (row ∷ rows) v e f = ap (λ (b : Bool). b || false) f
-shut-next (suc j) (row ∷ rows) v e f =
-    let h = neither (isOpen row) (any isOpen (take j rows)) e in
-    ap₂ (λ (a b : Bool). a || b) (h .0) (shut-next j rows v (h .1) f)
+steady-next j [] v e f = refl
+steady-next zero (row ∷ rows) v e f = ap (λ (b : Bool). b || false) f
+steady-next (suc j) (row ∷ rows) v e f =
+    let h = neither (isLockable row) (any isLockable (take j rows)) e in
+    ap₂ (λ (a b : Bool). a || b) (h .0) (steady-next j rows v (h .1) f)
 
-shut-whole : (n : ℕ) (rows : List Row) → length rows ≤ n → any isOpen (take n rows) ≡ false → any isOpen rows ≡ false
+steady-whole : (n : ℕ) (rows : List Row) → length rows ≤ n → any isLockable (take n rows) ≡ false → any isLockable rows ≡ false
 unfolding any
-shut-whole n [] h e = refl
-shut-whole zero (row ∷ rows) h e = absurd (omega (arith, h))
-shut-whole (suc n) (row ∷ rows) h e =
-    let f = neither (isOpen row) (any isOpen (take n rows)) e in
-    ap₂ (λ (a b : Bool). a || b) (f .0) (shut-whole n rows (omega (arith, h)) (f .1))
+steady-whole n [] h e = refl
+steady-whole zero (row ∷ rows) h e = absurd (omega (arith, h))
+steady-whole (suc n) (row ∷ rows) h e =
+    let f = neither (isLockable row) (any isLockable (take n rows)) e in
+    ap₂ (λ (a b : Bool). a || b) (f .0) (steady-whole n rows (omega (arith, h)) (f .1))
 
 module _ (y : Drive) (t : ℕ) (cs : List Bool) (x : Drive) (o : Bool) (j : ℕ) (d : Row) (g : Closing y t cs x o j) where
   -- the next row closed, whatever is stored for it
-  next-row : (v : Row) (o' : Bool) → v ≡ closeRow cs t (getD (x .rows) j d) → (o' ≡ false → (o ≡ false) × (isOpen v ≡ false))
+  next-row : (v : Row) (o' : Bool) → v ≡ closeRow cs t (getD (x .rows) j d) → (o' ≡ false → (o ≡ false) × (isLockable v ≡ false))
       → Closing y t cs (withRows (set (x .rows) j v) x) o' (j + 1)
   next-row v o' e f = record {
     drive = ap (λ (w : Drive). withRows (set (x .rows) j v) w) (g .drive)
         ∙ ap (λ (rows : List Row). withRows rows y) (mapTo-next (closeRow cs t) j (y .rows) (x .rows) v d (ap (λ (w : Drive). w .rows) (g .drive)) e);
-    flag = λ z. rw add-one (shut-next j (x .rows) v (g .flag (f z .0)) (f z .1));
+    flag = λ z. rw add-one (steady-next j (x .rows) v (g .flag (f z .0)) (f z .1));
   }
 
-  same-row : (o' : Bool) → getD (x .rows) j d ≡ closeRow cs t (getD (x .rows) j d) → (o' ≡ false → (o ≡ false) × (isOpen (getD (x .rows) j d) ≡ false))
+  same-row : (o' : Bool) → getD (x .rows) j d ≡ closeRow cs t (getD (x .rows) j d) → (o' ≡ false → (o ≡ false) × (isLockable (getD (x .rows) j d) ≡ false))
       → Closing y t cs x o' (j + 1)
   same-row o' e f =
       subst (λ (rows : List Row). Closing y t cs (withRows rows x) o' (j + 1)) (set-same (x .rows) j d) (next-row (getD (x .rows) j d) o' e f)
@@ -96,15 +96,15 @@ module _ (y : Drive) (t : ℕ) (cs : List Bool) (x : Drive) (o : Bool) (j : ℕ)
   pub close-lock : (w : Bool) (new : Row) → w ≡ locksBy cs t (getD (x .rows) j d) → w ≡ true → new ≡ lockUnder true (getD (x .rows) j d)
       → Closing y t cs (withRows (set (x .rows) j new) x) o (j + 1)
   close-lock w new q f r =
-      next-row new o (close-locks cs t (getD (x .rows) j d) new (sym q ∙ f) r) (λ z. (z, ap isOpen r ∙ locked-shut (getD (x .rows) j d)))
+      next-row new o (close-locks cs t (getD (x .rows) j d) new (sym q ∙ f) r) (λ z. (z, ap isLockable r ∙ locked-steady (getD (x .rows) j d)))
 
   pub close-stay : (w : Bool) → w ≡ locksBy cs t (getD (x .rows) j d) → w ≡ false → Closing y t cs x true (j + 1)
   close-stay w q f = same-row true (close-stays cs t (getD (x .rows) j d) (sym q ∙ f)) (λ z. absurd (true≢false z))
 
-  pub close-pass : (u : Bool) → u ≡ isOpen (getD (x .rows) j d) → u ≡ false → Closing y t cs x o (j + 1)
+  pub close-pass : (u : Bool) → u ≡ isLockable (getD (x .rows) j d) → u ≡ false → Closing y t cs x o (j + 1)
   close-pass u p e =
-      let f : isOpen (getD (x .rows) j d) ≡ false = sym p ∙ e in
-      same-row o (close-shut cs t (getD (x .rows) j d) f) (λ z. (z, f))
+      let f : isLockable (getD (x .rows) j d) ≡ false = sym p ∙ e in
+      same-row o (close-steady cs t (getD (x .rows) j d) f) (λ z. (z, f))
 
 -- by the names that the drive and the flag have where the ways meet
 pub close-as : {y : Drive} {t : ℕ} {cs : List Bool} {x x' : Drive} {o o' : Bool} {j : ℕ} → Closing y t cs x o j → x' ≡ x → o' ≡ o → Closing y t cs x' o' j
@@ -130,7 +130,7 @@ module _ {d : Drive} {e : Event} {a z : ℕ} {y x : Drive} {o due o' : Bool} {t 
         ∙ h .whole;
   }
 
-  pub closed-flag : o' ≡ false → any isOpen (x .rows) ≡ false
+  pub closed-flag : o' ≡ false → any isLockable (x .rows) ≡ false
   closed-flag q =
-      shut-whole j (x .rows)
+      steady-whole j (x .rows)
       (let l : length (x .rows) ≡ 16 = ap (λ (w : Drive). length (w .rows)) all-closed ∙ length-map (y .rows) _ ∙ k in omega (arith, l, m)) (g .flag q)

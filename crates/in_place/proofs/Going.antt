@@ -12,7 +12,7 @@ use mir.Syntax.{w64}
 use Rattle.base.specs.Lists.{any}
 use Rattle.base.specs.Rows.{isRow}
 use Rattle.sensor.specs.Single.{runs}
-use Rattle.band.specs.Rows.{isOpen, resetRow}
+use Rattle.band.specs.Rows.{isLockable, resetRow}
 use Rattle.drive.specs.declared.Drive.{Drive}
 use Rattle.drive.specs.declared.Kind.{Kind}
 use Rattle.drive.specs.State.{settleOf}
@@ -188,7 +188,7 @@ module _ (s : List ℕ) (start count : ℕ) (fresh : Drive) (answers₀ stops₀
 pub record Loop (s : List ℕ) (start count : ℕ) (fresh : Drive) (answers₀ stops₀ : List ℕ) (d : Drive) (answers stops : List ℕ) (at i : ℕ) (o : Bool) : Type 0 where
   pub going : Going s start count fresh answers₀ stops₀ d answers stops at i
   pub kept : Kept d
-  pub flag : o ≡ false → any isOpen (d .rows) ≡ false
+  pub flag : o ≡ false → any isLockable (d .rows) ≡ false
 
 pub loop-begin : (s : List ℕ) (start count : ℕ) (fresh : Drive) (answers₀ stops₀ : List ℕ) → Kept fresh → Loop s start count fresh answers₀ stops₀ fresh answers₀ stops₀ start 0 true
 loop-begin s start count fresh answers₀ stops₀ k = record { going = go-begin s start count fresh answers₀ stops₀; kept = k; flag = λ e. absurd (true≢false e) }
@@ -220,7 +220,7 @@ stored-long {d = d} {e = e} {y = y} {t = t} k h =
 
 -- the event run, by the names that the drive and the flag have where the ways meet
 pub again : {s : List ℕ} {start count : ℕ} {fresh : Drive} {answers₀ stops₀ : List ℕ} {d : Drive} {answers stops : List ℕ} {at i : ℕ} {o : Bool} {k : Kind} {b c n : ℕ} {a z : ℕ} {x x' : Drive}
-    {u u' : Bool} → Next s start count fresh answers₀ stops₀ d answers stops at i o k b c n → Ran d (eventOf k (tokensAt s b c)) a z x → (u ≡ false → any isOpen (x .rows) ≡ false) → x' ≡ x → u' ≡ u
+    {u u' : Bool} → Next s start count fresh answers₀ stops₀ d answers stops at i o k b c n → Ran d (eventOf k (tokensAt s b c)) a z x → (u ≡ false → any isLockable (x .rows) ≡ false) → x' ≡ x → u' ≡ u
     → Loop s start count fresh answers₀ stops₀ x' (set answers i a) (set stops i z) n (i + 1) u'
 again {s = s} {start = start} {count = count} {fresh = fresh} {answers₀ = answers₀} {stops₀ = stops₀} {d = d} {answers = answers} {stops = stops} {at = at} {i = i} {k = k} {b = b} {c = c} {n = n} {a = a} {z = z} {x = x} g v f ex eu = rw (ex, eu) (record {
   going = go-again s start count fresh answers₀ stops₀ d answers stops at i (g .loop .going) (eventOf k (tokensAt s b c)) n a z x (set answers i a) (set stops i z) (g .some) (g .long) (g .wide) (g .here) v refl refl;

@@ -10,8 +10,8 @@ use Rattle.base.specs.Rows.{modify}
 use Rattle.base.proofs.Jumps.{ticks-keep}
 use Rattle.sensor.specs.Single.{powerCycleOf}
 use Rattle.band.specs.declared.Row.{Row}
-use Rattle.band.specs.Rows.{freshRow, isOpen}
-use Rattle.bands.proofs.Open.{settle-shut}
+use Rattle.band.specs.Rows.{freshRow, isLockable}
+use Rattle.bands.proofs.Steady.{settle-steady}
 use Rattle.drive.specs.declared.Drive.{Drive}
 use Rattle.drive.specs.declared.Fresh.{Fresh}
 use Rattle.drive.specs.State.{headerFits, freshDrive, Freshens, withRows, settleOf, tickOf}
@@ -63,16 +63,16 @@ step-kept d e k = go (eqb (answerOf d e) 0)
 
 -- ---- the fresh drive
 
-fresh-shut : any isOpen (replicate 16 freshRow) ≡ false
+fresh-steady : any isLockable (replicate 16 freshRow) ≡ false
 unfolding any freshRow
-fresh-shut = refl
+fresh-steady = refl
 
 fresh-is-kept : (capacity bands sensors : ℕ) → Kept (freshDrive capacity bands sensors)
 unfolding freshDrive settleOf
 fresh-is-kept capacity bands sensors = record {
   rows = refl;
   sensors = refl;
-  settled = ap (λ (rows : List Row). withRows rows (freshDrive capacity bands sensors)) (settle-shut _ (replicate 16 freshRow) fresh-shut);
+  settled = ap (λ (rows : List Row). withRows rows (freshDrive capacity bands sensors)) (settle-steady _ (replicate 16 freshRow) fresh-steady);
 }
 
 pub fresh-kept : (capacity bands sensors : ℕ) (f : Fresh) → Freshens capacity bands sensors f → Kept (f .drive)

@@ -14,13 +14,13 @@ use Rattle.answer.specs.declared.Answer.{Answer}
 use Rattle.answer.specs.Numbers.{numberOf}
 use Rattle.sensor.specs.declared.single.Sensor.{Sensor}
 use Rattle.sensor.specs.declared.single.SensorAnswer.{SensorAnswer}
-use Rattle.sensor.specs.Single.{tickOf, loweredBy, runs, endsNext, Answers}
+use Rattle.sensor.specs.Single.{sensorTick, loweredBy, runs, endsNext, Answers}
 use Rattle.sensors.specs.declared.Passed.{Passed}
 use Rattle.sensors.specs.Sixteen.{quietTicks, Passes}
 use Rattle.sensors.proofs.Quiet.{AllQuiet, quietTicks-quiet, sensors-jump}
 use Rattle.band.specs.declared.Row.{Row}
 use Rattle.band.specs.declared.BandColumns.{BandColumns}
-use Rattle.band.specs.Rows.{isOpen, settleRow}
+use Rattle.band.specs.Rows.{isLockable, settleRow}
 use Rattle.row_set.specs.declared.RowAnswer.{RowAnswer}
 use Rattle.row_set.specs.Forming.{SetsRow}
 use Rattle.in_place.specs.declared.inner.Moved.{Moved}
@@ -48,13 +48,13 @@ moves n new one r m p q = record {
 -- ---- one row
 
 pub forms : (cs : List Bool) (c : BandColumns) (part bytes : List ℕ) (one : Row) (r : RowAnswer) (m : Formed) (new : Row) (a : ℕ) (o : Bool) → part ≡ bytes → SetsRow cs c part one r
-    → new ≡ settleRow cs (r .row) → a ≡ numberOf (r .answer) → o ≡ isOpen new → m .row ≡ new → m .number ≡ a → m .«is_open» ≡ o → Forms cs c bytes one m
+    → new ≡ settleRow cs (r .row) → a ≡ numberOf (r .answer) → o ≡ isLockable new → m .row ≡ new → m .number ≡ a → m .«is_open» ≡ o → Forms cs c bytes one m
 forms cs c part bytes one r m new a o et h en ea eo er em eq = record {
   reply = r;
   sets = subst (λ (l : List ℕ). SetsRow cs c l one r) et h;
   number-is = em ∙ ea;
   row-is = er ∙ en;
-  open-is = eq ∙ eo ∙ ap (λ (row : Row). isOpen row) (sym er);
+  open-is = eq ∙ eo ∙ ap (λ (row : Row). isLockable row) (sym er);
 }
 
 -- ---- an elapse
@@ -70,9 +70,9 @@ module _ (n : ℕ) (l : List Sensor) where
       cond-false (ltb 4294967295 n) _ _ _ (le-ltb 4294967295 n h)
       (et ∙ ap₂ (λ (b : Bool) (k : ℕ). b && ltb k n) (sym e) eq)
 
-  pub stops-shut : (o : Bool) → n ≤ 4294967295 → o ≡ false → false ≡ byStops o n l
+  pub stops-steady : (o : Bool) → n ≤ 4294967295 → o ≡ false → false ≡ byStops o n l
   unfolding byStops
-  stops-shut o h e =
+  stops-steady o h e =
       cond-false (ltb 4294967295 n) _ _ _ (le-ltb 4294967295 n h) (ap (λ (b : Bool). b && ltb (quietTicks n l) n) (sym e))
 
   pub pass-long : (r : Passing) → 4294967295 < n → r .sensors ≡ l → r .number ≡ 2 → r .stops ≡ 0 → PassesBy n l r
@@ -87,8 +87,8 @@ module _ (n : ℕ) (l : List Sensor) where
       let c : AllQuiet n l = subst (λ (k : ℕ). AllQuiet k l) (sym eq ∙ eqn) (quietTicks-quiet n l) in
       record {
         number-is = cond-false _ _ _ _ t en;
-        sensors-are = cond-false _ _ _ _ t (es ∙ em ∙ sym (quiet-ticks (map tickOf) (any endsNext) (λ k l. map (loweredBy k) l) AllQuiet sensors-jump n l c));
-        stops-are = cond-false _ _ _ _ t (ez ∙ sym (quiet-stops (map tickOf) (any endsNext) (λ k l. map (loweredBy k) l) AllQuiet sensors-jump n l c));
+        sensors-are = cond-false _ _ _ _ t (es ∙ em ∙ sym (quiet-ticks (map sensorTick) (any endsNext) (λ k l. map (loweredBy k) l) AllQuiet sensors-jump n l c));
+        stops-are = cond-false _ _ _ _ t (ez ∙ sym (quiet-stops (map sensorTick) (any endsNext) (λ k l. map (loweredBy k) l) AllQuiet sensors-jump n l c));
       }
 
   pub pass-on : (r : Passing) (p : Passed) (z : ℕ) → n ≤ 4294967295 → Passes n l p → z ≡ p .stops → r .sensors ≡ p .sensors → r .number ≡ 0 → r .stops ≡ z → PassesBy n l r

@@ -23,7 +23,7 @@ use Rattle.sensor.specs.declared.single.Sensor.{Sensor}
 use Rattle.sensor.specs.declared.columns.SensorColumns.{SensorColumns}
 use Rattle.sensor.specs.Level.{greatestReading}
 use Rattle.sensor.specs.Single.{readingAnswer, readingOf, judgeOf, turnedTo, powerCycleOf, loweredBy, endsNext}
-use Rattle.sensor.specs.Single.{tickOf as sensorTick}
+use Rattle.sensor.specs.Single.{sensorTick}
 use Rattle.sensor.specs.Columns.{setAnswer, setOf, storedOf, switchedOf}
 use Rattle.sensor.specs.Columns.{columnsFit as sensorColumnsFit}
 use Rattle.sensors.specs.Sixteen.{quietTicks, conditionsBelow}
@@ -31,9 +31,9 @@ use Rattle.sensors.proofs.Quiet.{AllQuiet, quietTicks-le, quietTicks-quiet, sen
 use Rattle.band.specs.declared.Side.{Side}
 use Rattle.band.specs.declared.Row.{Row}
 use Rattle.band.specs.declared.BandColumns.{BandColumns}
-use Rattle.band.specs.Rows.{freshRow, isOpen, closedOn, settleRow, inSet, resetRow}
+use Rattle.band.specs.Rows.{freshRow, isLockable, closedOn, settleRow, inSet, resetRow}
 use Rattle.band.proofs.Settling.{no-type}
-use Rattle.bands.proofs.Open.{settle-shut, reset-shut}
+use Rattle.bands.proofs.Steady.{settle-steady, reset-steady}
 use Rattle.geometry.specs.declared.Span.{Span}
 use Rattle.geometry.specs.declared.Placed.{Placed}
 use Rattle.geometry.specs.Events.{placed, placeAnswer, placeOf, transferAnswer, Places}
@@ -89,11 +89,11 @@ finish-none : (t : ℕ) (y : Drive) → 2 < t → finishOf t y ≡ settleOf y
 unfolding finishOf
 finish-none t y h = ap (λ (rows : List Row). settleOf (withRows rows y)) (no-set t (y .rows) h)
 
-finish-shut : (t : ℕ) (y : Drive) → any isOpen (y .rows) ≡ false → finishOf t y ≡ y
+finish-steady : (t : ℕ) (y : Drive) → any isLockable (y .rows) ≡ false → finishOf t y ≡ y
 unfolding finishOf settleOf
-finish-shut t y e =
-    ap (λ (rows : List Row). settleOf (withRows rows y)) (reset-shut t (y .rows) e)
-    ∙ ap (λ (rows : List Row). withRows rows y) (settle-shut (conditionsOf y) (y .rows) e)
+finish-steady t y e =
+    ap (λ (rows : List Row). settleOf (withRows rows y)) (reset-steady t (y .rows) e)
+    ∙ ap (λ (rows : List Row). withRows rows y) (settle-steady (conditionsOf y) (y .rows) e)
 
 -- An event stored: its two bytes; and the drive that is what the event makes of it once a reset of type t and settling have locked the rows.
 -- Nothing is to lock where that is not due, or where no row may be open.
@@ -102,10 +102,10 @@ pub record Half (d : Drive) (e : Event) (a z : ℕ) (y : Drive) (mayBeOpen due :
   pub stops : z ≡ stopsOf d e
   pub whole : finishOf t y ≡ stepOf d e
   pub calm : due ≡ false → finishOf t y ≡ y
-  pub flag : mayBeOpen ≡ false → any isOpen (y .rows) ≡ false
+  pub flag : mayBeOpen ≡ false → any isLockable (y .rows) ≡ false
 
 -- an event whose drive is settled already
-whole-half : (d : Drive) (e : Event) (a z : ℕ) (y : Drive) (o due : Bool) (t : ℕ) → Kept d → 2 < t → Ran d e a z y → (o ≡ false → any isOpen (y .rows) ≡ false) → Half d e a z y o due t
+whole-half : (d : Drive) (e : Event) (a z : ℕ) (y : Drive) (o due : Bool) (t : ℕ) → Kept d → 2 < t → Ran d e a z y → (o ≡ false → any isLockable (y .rows) ≡ false) → Half d e a z y o due t
 whole-half d e a z y o due t k h r f =
     let w : finishOf t y ≡ y = finish-none t y h ∙ ap settleOf (r .drive) ∙ step-kept d e k .settled ∙ sym (r .drive) in
     record { answer = r .answer; stops = r .stops; whole = w ∙ r .drive; calm = λ _. w; flag = f }
@@ -115,7 +115,7 @@ pub half-idle : {d : Drive} {e : Event} {a z : ℕ} {y : Drive} {o due u : Bool}
 half-idle {y = y} {o = o} {due = due} {t = t} h p q = record { answer = h .answer; stops = h .stops; drive = sym (go o due refl refl (sym p ∙ q)) ∙ h .whole }
   where
     go : (x w : Bool) → o ≡ x → due ≡ w → (x && w) ≡ false → finishOf t y ≡ y
-    go false w eo ed z = finish-shut t y (h .flag eo)
+    go false w eo ed z = finish-steady t y (h .flag eo)
     go true false eo ed z = h .calm ed
     go true true eo ed z = absurd (true≢false z)
 
@@ -139,9 +139,9 @@ stored d e n x y s p z does not-done q = record {
 
 -- ---- where nothing settles
 
-shut-settles : (d : Drive) (l : List Sensor) → any isOpen (d .rows) ≡ false → settleOf (withSensors l d) ≡ withSensors l d
+steady-settles : (d : Drive) (l : List Sensor) → any isLockable (d .rows) ≡ false → settleOf (withSensors l d) ≡ withSensors l d
 unfolding settleOf
-shut-settles d l e = ap (λ (rows : List Row). withRows rows (withSensors l d)) (settle-shut (conditionsOf (withSensors l d)) (d .rows) e)
+steady-settles d l e = ap (λ (rows : List Row). withRows rows (withSensors l d)) (settle-steady (conditionsOf (withSensors l d)) (d .rows) e)
 
 same-conditions : (c : ℕ) (l : List Sensor) (i : ℕ) (y v : Sensor) → i < length l → v .condition ≡ getD l i y .condition
     → conditionsBelow c (set l i v) ≡ conditionsBelow c l
@@ -170,7 +170,7 @@ module _ (d : Drive) (k : Kept d) (s : ℕ) (t : Bool) (p : t ≡ not (isRow (d 
     held : Drive
     held = withSensors (set (d .sensors) s (m .sensor)) d
 
-    sensor-half : (o : Bool) (w : ℕ) → 2 < w → (o ≡ false → any isOpen (d .rows) ≡ false) → Half d ev (m .number) 0 held o (m .turned) w
+    sensor-half : (o : Bool) (w : ℕ) → 2 < w → (o ≡ false → any isLockable (d .rows) ≡ false) → Half d ev (m .number) 0 held o (m .turned) w
     unfolding held
     sensor-half o w g fl = record {
       answer = h .number-is ∙ ea;
@@ -189,7 +189,7 @@ module _ (d : Drive) (k : Kept d) (s : ℕ) (t : Bool) (p : t ≡ not (isRow (d 
             (λ q. ap (λ (v : Sensor). withSensors (set (d .sensors) s v) d) (h .sensor-is ∙ stays q) ∙ ap (λ (l : List Sensor). withSensors l d) (set-same (d .sensors) s y))
             refl
 
-  pub reading-half : (v : ℕ) (m : Moved) (o : Bool) (w : ℕ) → Moves (readingAnswer v) (readingOf v (getD (d .sensors) s y)) (getD (d .sensors) s y) m → 2 < w → (o ≡ false → any isOpen (d .rows) ≡ false)
+  pub reading-half : (v : ℕ) (m : Moved) (o : Bool) (w : ℕ) → Moves (readingAnswer v) (readingOf v (getD (d .sensors) s y)) (getD (d .sensors) s y) m → 2 < w → (o ≡ false → any isLockable (d .rows) ≡ false)
       → Half d (reading s v) (m .number) 0 (withSensors (set (d .sensors) s (m .sensor)) d) o (m .turned) w
   unfolding held actOf answerOf readingOf
   reading-half v m o w h =
@@ -201,7 +201,7 @@ module _ (d : Drive) (k : Kept d) (s : ℕ) (t : Bool) (p : t ≡ not (isRow (d 
       go true x z q = refl
       go false x z q = absurd (true≢false q)
 
-  pub set-half : (c : SensorColumns) (m : Moved) (o : Bool) (w : ℕ) → Moves (setAnswer c) (setOf c (getD (d .sensors) s y)) (getD (d .sensors) s y) m → 2 < w → (o ≡ false → any isOpen (d .rows) ≡ false)
+  pub set-half : (c : SensorColumns) (m : Moved) (o : Bool) (w : ℕ) → Moves (setAnswer c) (setOf c (getD (d .sensors) s y)) (getD (d .sensors) s y) m → 2 < w → (o ≡ false → any isLockable (d .rows) ≡ false)
       → Half d (sensorSet s c) (m .number) 0 (withSensors (set (d .sensors) s (m .sensor)) d) o (m .turned) w
   unfolding held actOf answerOf setOf
   set-half c m o w h =
@@ -214,7 +214,7 @@ module _ (d : Drive) (k : Kept d) (s : ℕ) (t : Bool) (p : t ≡ not (isRow (d 
       go true x z q = absurd (true≢false q)
 
 -- a row that is not there
-module _ (d : Drive) (k : Kept d) (o due : Bool) (w : ℕ) (g : 2 < w) (fl : o ≡ false → any isOpen (d .rows) ≡ false) (t : Bool) where
+module _ (d : Drive) (k : Kept d) (o due : Bool) (w : ℕ) (g : 2 < w) (fl : o ≡ false → any isLockable (d .rows) ≡ false) (t : Bool) where
   pub reading-absent : (s v : ℕ) → t ≡ not (isRow (d .«sensor_count») s) → t ≡ true → Half d (reading s v) 1 0 d o due w
   reading-absent s v p e = whole-half d (reading s v) 1 0 d o due w k g (refusal d (reading s v) NoRow (no-sensor-reading d s v t (refused NoRow d) p e refl)) fl
 
@@ -262,25 +262,25 @@ elapse-half d k n z r o t w g p e h ez =
     whole-half d (elapse n) 0 z (r .drive) o true w k g (elapsed d n z (r .drive) (k .settled) (q .1) (ez ∙ h .stops) (h .drive)) (λ f. absurd (true≢false (sym (q .0) ∙ f)))
 
 -- no row is open: the sensors alone pass
-module _ (d : Drive) (o : any isOpen (d .rows) ≡ false) where
-  shut-tick : (l : List Sensor) → tickOf (withSensors l d) ≡ withSensors (map sensorTick l) d
+module _ (d : Drive) (o : any isLockable (d .rows) ≡ false) where
+  steady-tick : (l : List Sensor) → tickOf (withSensors l d) ≡ withSensors (map sensorTick l) d
   unfolding tickOf
-  shut-tick l = shut-settles d (map sensorTick l) o
+  steady-tick l = steady-settles d (map sensorTick l) o
 
-  shut-ticks : (n : ℕ) (l : List Sensor) → ticks tickOf n (withSensors l d) ≡ withSensors (ticks (map sensorTick) n l) d
+  steady-ticks : (n : ℕ) (l : List Sensor) → ticks tickOf n (withSensors l d) ≡ withSensors (ticks (map sensorTick) n l) d
   unfolding ticks
-  shut-ticks zero l = refl
-  shut-ticks (suc n) l = ap (λ (x : Drive). ticks tickOf n x) (shut-tick l) ∙ shut-ticks n (map sensorTick l)
+  steady-ticks zero l = refl
+  steady-ticks (suc n) l = ap (λ (x : Drive). ticks tickOf n x) (steady-tick l) ∙ steady-ticks n (map sensorTick l)
 
-  shut-stops : (n : ℕ) (l : List Sensor) → stopsIn tickOf stopNext n (withSensors l d) ≡ stopsIn (map sensorTick) (any endsNext) n l
+  steady-stops : (n : ℕ) (l : List Sensor) → stopsIn tickOf stopNext n (withSensors l d) ≡ stopsIn (map sensorTick) (any endsNext) n l
   unfolding stopsIn stopNext
-  shut-stops zero l = refl
-  shut-stops (suc n) l =
+  steady-stops zero l = refl
+  steady-stops (suc n) l =
       ap (λ (m : ℕ). oneIf (any endsNext l) + m)
-      (ap (λ (x : Drive). stopsIn tickOf stopNext n x) (shut-tick l) ∙ shut-stops n (map sensorTick l))
+      (ap (λ (x : Drive). stopsIn tickOf stopNext n x) (steady-tick l) ∙ steady-stops n (map sensorTick l))
 
 -- the sensors alone: no row is open, or no timer ends
-pub pass-half : (d : Drive) (k : Kept d) (n : ℕ) (r : Passing) (o t due : Bool) (w : ℕ) → 2 < w → (o ≡ false → any isOpen (d .rows) ≡ false) → t ≡ byStops o n (d .sensors) → t ≡ false → PassesBy n (d .sensors) r
+pub pass-half : (d : Drive) (k : Kept d) (n : ℕ) (r : Passing) (o t due : Bool) (w : ℕ) → 2 < w → (o ≡ false → any isLockable (d .rows) ≡ false) → t ≡ byStops o n (d .sensors) → t ≡ false → PassesBy n (d .sensors) r
     → Half d (elapse n) (r .number) (r .stops) (withSensors (r .sensors) d) o due w
 unfolding byStops jumpOf
 pass-half d k n r o t due w g fl p e h = go o (ltb 4294967295 n) refl refl
@@ -319,14 +319,14 @@ pass-half d k n r o t due w g fl p e h = go o (ltb 4294967295 n) refl refl
         (ap (λ (l : List Sensor). withSensors l d) (sym (sensors-in true q)))
     go false false eo q =
         let c = fl eo in
-        alone (ltb-false 4294967295 n q) q (sym (shut-ticks d c n (d .sensors))) (sym (shut-stops d c n (d .sensors)))
+        alone (ltb-false 4294967295 n q) q (sym (steady-ticks d c n (d .sensors))) (sym (steady-stops d c n (d .sensors)))
     go true false eo q =
         let f : ltb (quietTicks n (d .sensors)) n ≡ false = sym (ap₂ (λ (b x : Bool). cond b false (x && ltb (quietTicks n (d .sensors)) n)) q eo) ∙ sym p ∙ e in
         quiet (omega (arith, quietTicks-le n (d .sensors), ltb-false (quietTicks n (d .sensors)) n f)) q
 
 -- ---- reset
 
-reset-half : (d : Drive) (k : Kept d) (t : ℕ) (l : List Sensor) (a : ℕ) (o : Bool) → (o ≡ false → any isOpen (d .rows) ≡ false) → a ≡ cond (ltb 2 t) 2 0
+reset-half : (d : Drive) (k : Kept d) (t : ℕ) (l : List Sensor) (a : ℕ) (o : Bool) → (o ≡ false → any isLockable (d .rows) ≡ false) → a ≡ cond (ltb 2 t) 2 0
     → l ≡ cond (eqb t 0) (map powerCycleOf (d .sensors)) (d .sensors) → Half d (reset t) a 0 (withSensors l d) o true t
 unfolding finishOf actOf answerOf
 reset-half d k t l a o fl ea el = go (ltb 2 t) refl
@@ -353,11 +353,11 @@ reset-half d k t l a o fl ea el = go (ltb 2 t) refl
           flag = fl;
         }
 
-pub reset-cycle : (d : Drive) (k : Kept d) (t : ℕ) (l : List Sensor) (a : ℕ) (o : Bool) → (o ≡ false → any isOpen (d .rows) ≡ false) → a ≡ cond (ltb 2 t) 2 0 → t ≡ 0 → l ≡ map powerCycleOf (d .sensors)
+pub reset-cycle : (d : Drive) (k : Kept d) (t : ℕ) (l : List Sensor) (a : ℕ) (o : Bool) → (o ≡ false → any isLockable (d .rows) ≡ false) → a ≡ cond (ltb 2 t) 2 0 → t ≡ 0 → l ≡ map powerCycleOf (d .sensors)
     → Half d (reset t) a 0 (withSensors l d) o true t
 reset-cycle d k t l a o fl ea z el = reset-half d k t l a o fl ea (cond-true (eqb t 0) _ _ _ (eq-eqb t 0 z) el)
 
-pub reset-other : (d : Drive) (k : Kept d) (t : ℕ) (a : ℕ) (o : Bool) → (o ≡ false → any isOpen (d .rows) ≡ false) → a ≡ cond (ltb 2 t) 2 0 → t ≢ 0 → Half d (reset t) a 0 d o true t
+pub reset-other : (d : Drive) (k : Kept d) (t : ℕ) (a : ℕ) (o : Bool) → (o ≡ false → any isLockable (d .rows) ≡ false) → a ≡ cond (ltb 2 t) 2 0 → t ≢ 0 → Half d (reset t) a 0 d o true t
 reset-other d k t a o fl ea z = reset-half d k t (d .sensors) a o fl ea (cond-false (eqb t 0) _ _ _ (ne-eqb t 0 z) refl)
 
 -- ---- band Set
@@ -416,22 +416,22 @@ module _ (d : Drive) (k : Kept d) (b : ℕ) (c : BandColumns) (bytes : List ℕ)
       cond-drop : (z : Bool) → z ≡ false → cond z (formedFrom c bytes (getD (d .rows) b y)) (getD (d .rows) b y) ≡ getD (d .rows) b y
       cond-drop z f = ap (λ (w : Bool). cond w (formedFrom c bytes (getD (d .rows) b y)) (getD (d .rows) b y)) f
 
-set-shut : (rows : List Row) (i : ℕ) (v : Row) → any isOpen rows ≡ false → isOpen v ≡ false → any isOpen (set rows i v) ≡ false
+set-steady : (rows : List Row) (i : ℕ) (v : Row) → any isLockable rows ≡ false → isLockable v ≡ false → any isLockable (set rows i v) ≡ false
 unfolding any
-set-shut [] i v e f = refl
-set-shut (row ∷ rows) zero v e f = ap₂ (λ (a b : Bool). a || b) f (neither (isOpen row) (any isOpen rows) e .1)
-set-shut (row ∷ rows) (suc i) v e f =
-    let h = neither (isOpen row) (any isOpen rows) e in
-    ap₂ (λ (a b : Bool). a || b) (h .0) (set-shut rows i v (h .1) f)
+set-steady [] i v e f = refl
+set-steady (row ∷ rows) zero v e f = ap₂ (λ (a b : Bool). a || b) f (neither (isLockable row) (any isLockable rows) e .1)
+set-steady (row ∷ rows) (suc i) v e f =
+    let h = neither (isLockable row) (any isLockable rows) e in
+    ap₂ (λ (a b : Bool). a || b) (h .0) (set-steady rows i v (h .1) f)
 
 -- with the flag: it is set where the new row is open
 pub band-half : (d : Drive) (k : Kept d) (b : ℕ) (c : BandColumns) (bytes : List ℕ) (t : Bool) (y : Row) (cs : List Bool) (m : Formed) (o o' due : Bool) (w : ℕ)
-    → 2 < w → (o ≡ false → any isOpen (d .rows) ≡ false) → t ≡ not (isRow (d .«band_count») b) → t ≡ false → cs ≡ conditionsBelow (d .«sensor_count») (d .sensors)
+    → 2 < w → (o ≡ false → any isLockable (d .rows) ≡ false) → t ≡ not (isRow (d .«band_count») b) → t ≡ false → cs ≡ conditionsBelow (d .«sensor_count») (d .sensors)
     → Forms cs c bytes (getD (d .rows) b y) m → o' ≡ (o || m .«is_open») → Half d (bandSet b c bytes) (m .number) 0 (withRows (set (d .rows) b (m .row)) d) o' due w
 band-half d k b c bytes t y cs m o o' due w g fl p e ec h eo =
     whole-half d (bandSet b c bytes) (m .number) 0 (withRows (set (d .rows) b (m .row)) d) o' due w k g
     (band-ran d k b c bytes t p e y cs ec (h .reply) (h .sets) (m .number) (m .row) _ (h .number-is) (h .row-is) refl)
-    (λ z. let q = neither o (m .«is_open») (sym eo ∙ z) in set-shut (d .rows) b (m .row) (fl (q .0)) (sym (h .open-is) ∙ q .1))
+    (λ z. let q = neither o (m .«is_open») (sym eo ∙ z) in set-steady (d .rows) b (m .row) (fl (q .0)) (sym (h .open-is) ∙ q .1))
 
 -- ---- geometry and transfer
 
@@ -439,7 +439,7 @@ spans-settle : (d : Drive) (l : List Span) → settleOf d ≡ d → settleOf (wi
 unfolding settleOf conditionsOf
 spans-settle d l s = ap (λ (x : Drive). withSpans l x) s
 
-pub geometry-half : (d : Drive) (k : Kept d) (b start n : ℕ) (r : Placed) (a : ℕ) (o due : Bool) (w : ℕ) → 2 < w → (o ≡ false → any isOpen (d .rows) ≡ false)
+pub geometry-half : (d : Drive) (k : Kept d) (b start n : ℕ) (r : Placed) (a : ℕ) (o due : Bool) (w : ℕ) → 2 < w → (o ≡ false → any isLockable (d .rows) ≡ false)
     → Places (d .capacity) (d .«band_count») (d .spans) b start n r → a ≡ numberOf (r .answer) → Half d (geometry b start n) a 0 (withSpans (r .spans) d) o due w
 unfolding placeOf actOf
 geometry-half d k b start n r a o due w g fl h ea =
@@ -453,7 +453,7 @@ geometry-half d k b start n r a o due w g fl h ea =
     alike : (x : Bool) → eqb a 0 ≡ x → eqb (placeAnswer (d .capacity) (d .«band_count») (d .spans) b start n) 0 ≡ x
     alike x z = ap (λ (m : ℕ). eqb m 0) (sym (h .answer) ∙ sym ea) ∙ z
 
-pub transfer-half : (d : Drive) (k : Kept d) (v start n : ℕ) (side : Side) (closed : List Bool) (a : ℕ) (o due : Bool) (w : ℕ) → 2 < w → (o ≡ false → any isOpen (d .rows) ≡ false) → side ≡ sideOf v
+pub transfer-half : (d : Drive) (k : Kept d) (v start n : ℕ) (side : Side) (closed : List Bool) (a : ℕ) (o due : Bool) (w : ℕ) → 2 < w → (o ≡ false → any isLockable (d .rows) ≡ false) → side ≡ sideOf v
     → closed ≡ map (closedOn side) (d .rows) → a ≡ cond (ltb 1 v) 2 (transferAnswer (d .capacity) (d .«band_count») (d .spans) closed start n) → Half d (transfer v start n) a 0 d o due w
 unfolding actOf answerOf transferAnswer
 transfer-half d k v start n side closed a o due w g fl es ec ea =

@@ -8,11 +8,11 @@ use Rattle.base.specs.Lists.{any}
 use Rattle.base.specs.Ticks.{ticks, stops}
 use Rattle.answer.specs.Numbers.{numberOf}
 use Rattle.sensor.specs.declared.single.Sensor.{Sensor}
-use Rattle.sensor.specs.Single.{tickOf, endsNext}
+use Rattle.sensor.specs.Single.{sensorTick, endsNext}
 use Rattle.sensors.specs.Sixteen.{quietTicks}
 use Rattle.band.specs.declared.Row.{Row}
 use Rattle.band.specs.declared.BandColumns.{BandColumns}
-use Rattle.band.specs.Rows.{isOpen, settleRow}
+use Rattle.band.specs.Rows.{isLockable, settleRow}
 use Rattle.row_set.specs.declared.RowAnswer.{RowAnswer}
 use Rattle.row_set.specs.Forming.{SetsRow}
 use Rattle.in_place.specs.declared.inner.Moved.{Moved}
@@ -31,7 +31,7 @@ pub record Forms (conditions : List Bool) (columns : BandColumns) (bytes : List 
   pub sets : SetsRow conditions columns bytes one reply
   pub number-is : r .number ≡ numberOf (reply .answer)
   pub row-is : r .row ≡ settleRow conditions (reply .row)
-  pub open-is : r .«is_open» ≡ isOpen (r .row)
+  pub open-is : r .«is_open» ≡ isLockable (r .row)
 
 -- "2 out of range": an elapse has at most 4,294,967,295 ticks
 abbrev pub tooManyTicks : ℕ → Bool
@@ -44,5 +44,5 @@ byStops mayBeOpen n l = cond (tooManyTicks n) false (mayBeOpen && ltb (quietTick
 -- an elapse of the sensors alone: "n ticks", and "the ticks at which some timer ends"
 pub record PassesBy (n : ℕ) (l : List Sensor) (r : Passing) : Type 0 where
   pub number-is : r .number ≡ cond (tooManyTicks n) 2 0
-  pub sensors-are : r .sensors ≡ cond (tooManyTicks n) l (ticks (map tickOf) n l)
-  pub stops-are : r .stops ≡ cond (tooManyTicks n) 0 (stops (map tickOf) (any endsNext) n l)
+  pub sensors-are : r .sensors ≡ cond (tooManyTicks n) l (ticks (map sensorTick) n l)
+  pub stops-are : r .stops ≡ cond (tooManyTicks n) 0 (stops (map sensorTick) (any endsNext) n l)

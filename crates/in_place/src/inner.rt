@@ -114,7 +114,7 @@ fn form(
     Formed {
         row: new,
         number: answer.number(),
-        is_open: new.open(),
+        is_open: new.lockable(),
     }
 }
 
@@ -327,7 +327,7 @@ pub fn run_events(
             any_open = false;
             for j in 0..16 {
                 let row = drive.rows[j];
-                if row.open() {
+                if row.lockable() {
                     if row.locks(locking, conditions) {
                         let new = row.lock();
                         drive.rows[j] = new;

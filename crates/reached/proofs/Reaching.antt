@@ -15,14 +15,14 @@ use Rattle.base.proofs.Rows.{row-is}
 use Rattle.base.proofs.Jumps.{ticks-keep}
 use Rattle.sensor.specs.declared.single.Sensor.{Sensor}
 use Rattle.sensor.specs.Single.{freshSensor, readingOf, powerCycleOf}
-use Rattle.sensor.specs.Single.{tickOf as sensorTick}
+use Rattle.sensor.specs.Single.{sensorTick}
 use Rattle.sensor.specs.Columns.{setOf}
 use Rattle.sensor.specs.Sound.{Sound}
 use Rattle.sensor.proofs.Soundness.{fresh-sound, tick-sound, reading-sound, power-cycle-sound, set-sound}
 use Rattle.sensor.proofs.Motion.{fresh-tick, fresh-power-cycle}
 use Rattle.expression.specs.declared.Expression.{Expression}
 use Rattle.token_reader.specs.Format.{Bytes}
-use Rattle.token_reader.specs.Read.{Outcome, elements, refusal, readTokens, expressionIn}
+use Rattle.token_reader.specs.Read.{TokenOutcome, elements, refusal, readTokens, expressionIn}
 use Rattle.token_reader.proofs.Fits.{read-fits}
 use Rattle.band.specs.declared.Row.{Row}
 use Rattle.band.specs.declared.BandColumns.{BandColumns}
@@ -75,7 +75,7 @@ unfolding resetRow
 reset-fits type row r = cond-either RowFits (inSet (row .«lock_on_reset») type) (lockUnder true row) row (λ q. locked-fits _ _ row r) (λ q. r)
 
 -- what a Set's bytes read to, a refusal too
-read-stored : (tokens : List ℕ) (o : Outcome) → Bytes tokens → readTokens tokens ≡ o → Stored (expressionIn o)
+read-stored : (tokens : List ℕ) (o : TokenOutcome) → Bytes tokens → readTokens tokens ≡ o → Stored (expressionIn o)
 read-stored tokens (elements es) k e = let f = read-fits tokens es k e in record { list = es; same = refl; few = f .0; fit = f .1 }
 read-stored tokens (refusal n) k e = record { list = []; same = refl; few = omega arith; fit = tt }
 

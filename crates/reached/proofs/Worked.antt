@@ -16,8 +16,8 @@ use Rattle.phases.specs.Phases.{isEnabled, moveOf, levelAfter}
 use Rattle.sensor.specs.declared.single.Sensor.{Sensor}
 use Rattle.sensor.specs.Level.{greatestReading, levelRule}
 use Rattle.sensor.specs.Single.{freshSensor, onOf, offOf, moved, movedBy, withLevel, judgeOf, turnCause, turnedTo, readingOf, enableOf}
-use Rattle.sensor.specs.Single.{stepOf as sensorStep}
-use Rattle.sensor.specs.Single.{tickOf as sensorTick}
+use Rattle.sensor.specs.Single.{afterCause}
+use Rattle.sensor.specs.Single.{sensorTick}
 use Rattle.sensor.specs.Columns.{columnsFit, storedOf, switchedOf, setOf}
 use Rattle.sensor.proofs.Levels.{high-true, low-false, inside-keeps, high-false}
 use Rattle.sensor.proofs.Motion.{waitingAt, turn-waits}
@@ -64,10 +64,10 @@ same-level false true e = sym e
 same-level false false e = refl
 
 turned-level : (l : Bool) (s : Sensor) → turnedTo l s .level ≡ l
-unfolding turnedTo sensorStep
+unfolding turnedTo afterCause
 turned-level l s = go (Bool·beq l (s .level)) refl
   where
-    go : (b : Bool) → Bool·beq l (s .level) ≡ b → cond b s (sensorStep (turnCause l s) s) .level ≡ l
+    go : (b : Bool) → Bool·beq l (s .level) ≡ b → cond b s (afterCause (turnCause l s) s) .level ≡ l
     go true e = same-level l (s .level) e
     go false e = move-level (moveOf (s .phase) (turnCause l s)) (withLevel (levelAfter (turnCause l s) (s .level)) s) ∙ turn-level l s
 
@@ -105,7 +105,7 @@ unfolding ticks sensorTick
 after-two level s = refl
 
 after-three : (level : Bool) (s : Sensor) → ticks sensorTick 3 (waits level s) .condition ≡ level
-unfolding ticks sensorTick sensorStep moveOf
+unfolding ticks sensorTick afterCause moveOf
 after-three true s = refl
 after-three false s = refl
 
@@ -125,7 +125,7 @@ module _ (level : Bool) (s : Sensor) (on : isEnabled (s .phase) ≡ true) (turns
 pub starred : Starred
 unfolding bodyOf readTokens readList readElements isEnd partIn startsWith valueOf evaluate
     bandColumnsFit formedRow freshRow settleRow
-    columnsFit setOf storedOf switchedOf enableOf readingOf judgeOf levelRule turnedTo sensorStep moveOf sensorTick freshSensor
+    columnsFit setOf storedOf switchedOf enableOf readingOf judgeOf levelRule turnedTo afterCause moveOf sensorTick freshSensor
     anyBlock noSpan
     freshDrive settleOf tickOf stopNext any ticks stops answerOf actOf stepOf stopsOf runOf
 starred = record {

@@ -9,7 +9,7 @@ use Rattle.phases.specs.Phases.{isEnabled}
 use Rattle.sensor.specs.declared.single.Sensor.{Sensor}
 use Rattle.sensor.specs.declared.columns.SensorColumns.{SensorColumns}
 use Rattle.sensor.specs.Single.{freshSensor, onOf, offOf, readingOf, turnedTo}
-use Rattle.sensor.specs.Single.{tickOf as sensorTick}
+use Rattle.sensor.specs.Single.{sensorTick}
 use Rattle.expression.specs.declared.Part.the-variants.{Reference, Operator}
 use Rattle.expression.specs.declared.Element.{Element}
 use Rattle.expression.specs.Elements.{element, elementsIn}

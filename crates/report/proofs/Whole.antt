@@ -16,7 +16,7 @@ use Rattle.script.specs.Whole.{Script, accepted, bad, readScript}
 use Rattle.script.proofs.Few.{few-events}
 use Rattle.run.specs.declared.Ran.{Ran}
 use Rattle.in_place.specs.Course.{answersOf, stopsIn, over}
-use Rattle.run.specs.Outcome.{Outcome, outcome, outcomeIn, runEvents, runScript}
+use Rattle.run.specs.Outcome.{RunOutcome, outcome, outcomeIn, runEvents, runScript}
 use Rattle.in_place.proofs.Going.{along-length}
 use Rattle.run.proofs.Whole.{all-taken, accepted-is}
 use Rattle.report.specs.declared.Listed.{Listed}
@@ -44,7 +44,7 @@ getD-over bytes lent i h = front bytes (drop (length bytes) lent) i h
     front (x ∷ a) b zero h = refl
     front (x ∷ a) b (suc i) h = front a b i (omega (arith, h))
 
-abbrev sizedIn : Outcome → Type 0
+abbrev sizedIn : RunOutcome → Type 0
 sizedIn (outcome answer place count drive answers stops) = Sized count drive answers stops
 
 module _ (s answers stops : List ℕ) (long : 32766 ≤ length answers) (wide : 32766 ≤ length stops) where

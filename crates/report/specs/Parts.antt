@@ -5,11 +5,11 @@ use mathlib.Core.List.{List, _++_}
 use lib.Dec.{eqb}
 use lib.ListN.{length}
 use Rattle.drive.specs.declared.Drive.{Drive}
-use Rattle.run.specs.Outcome.{Outcome, outcome}
+use Rattle.run.specs.Outcome.{RunOutcome, outcome}
 use Rattle.lines.specs.Lines.{eventLines, driveLines, badLine}
 
 -- the lines that a run's result and its buffers give
-abbrev pub runLines : Outcome → List ℕ
+abbrev pub runLines : RunOutcome → List ℕ
 runLines (outcome answer place count drive answers stops) =
     cond (eqb answer 10) (badLine place) (eventLines answers stops count ++ driveLines (drive .«band_count») (drive .«sensor_count») drive)
 

@@ -23,7 +23,7 @@ use Rattle.script.proofs.Few.{few-events}
 use Rattle.run.specs.declared.Ran.{Ran}
 use Rattle.in_place.specs.Course.{along, answersOf, stopsIn, over}
 use Rattle.run.specs.Outcome.{outcome, outcomeIn, refusedRun, runEvents, runScript, fewerOf, Refuses, RunsFirst}
-use Rattle.run.specs.Holds.{ownAnswers, RanWhole, Holds, RunWhole, HoldsOfTwo}
+use Rattle.run.specs.Condition3.{ownAnswers, RanWhole, Condition3OfRun, RunWhole, Condition3OfTwo}
 use Rattle.run.proofs.Whole.{all-taken, accepted-is, bad-script, script-run}
 
 -- the answers written to a band's Sets are the answers to its Sets
@@ -61,7 +61,7 @@ module _ (s : List ℕ) (most : ℕ) (answers stops : List ℕ) (r : Ran) (answe
   own-are band capacity bands sensors es w =
       ap (ownAnswers band es) (ended capacity bands sensors es w .answers-are) ∙ own-written band (freshDrive capacity bands sensors) es _
 
-  pub holds : Holds s most r answers'
+  pub holds : Condition3OfRun s most r answers'
   holds = record {
     isolation = λ t capacity bands sensors es capacity' bands' sensors' fs w q h band b c.
         let d = ended capacity bands sensors es w .drive-is in
@@ -82,11 +82,11 @@ module _ (s : List ℕ) (most : ℕ) (answers stops : List ℕ) (r : Ran) (answe
 -- ---- the arms of the run
 
 module _ (s : List ℕ) (most : ℕ) (answers stops : List ℕ) (k : Checked) (e : checkedIn k ≡ checkOf s) where
-  pub bad-holds : (place : ℕ) (r : Ran) → k ≡ C.BadAt place → Refuses BadScript place r → Holds s most r answers
+  pub bad-holds : (place : ℕ) (r : Ran) → k ≡ C.BadAt place → Refuses BadScript place r → Condition3OfRun s most r answers
   bad-holds place r q p = holds s most answers stops r answers stops (bad-script s most answers stops k e place r q p)
 
   pub run-holds : (all count : ℕ) (r : Ran) (answers' stops' : List ℕ) → k ≡ C.Reads all → count ≡ fewerOf all most
-      → RunsFirst s count answers stops r answers' stops' → Holds s most r answers'
+      → RunsFirst s count answers stops r answers' stops' → Condition3OfRun s most r answers'
   run-holds all count r answers' stops' q c p = holds s most answers stops r answers' stops' (script-run s most answers stops k e all count r answers' stops' q c p)
 
 -- ---- two runs
@@ -98,7 +98,7 @@ whole s r capacity bands sensors es w =
 
 pub two-hold : (s t : List ℕ) (answers stops answers2 stops2 : List ℕ) (r q : Ran) (answers' stops' answers2' stops2' : List ℕ)
     → outcomeIn r answers' stops' ≡ runScript (readScript s) 65536 answers stops → outcomeIn q answers2' stops2' ≡ runScript (readScript t) 65536 answers2 stops2
-    → HoldsOfTwo s t (record { first = r; second = q }) answers' answers2'
+    → Condition3OfTwo s t (record { first = r; second = q }) answers' answers2'
 two-hold s t answers stops answers2 stops2 r q answers' stops' answers2' stops2' o p = record {
   isolation = λ capacity bands sensors es capacity' bands' sensors' fs w v h band b c.
       let x = holds s 65536 answers stops r answers' stops' o .isolation t capacity bands sensors es capacity' bands' sensors' fs (whole s r capacity bands sensors es w) (v .reads) h band b c in

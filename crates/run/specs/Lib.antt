@@ -1,2 +1,2 @@
 pub mod Outcome
-pub mod Holds
+pub mod Condition3

@@ -1,7 +1,7 @@
 // The run of a script (document 01, 'Script'): the events of a script, one after the other, from the fresh drive of its header.
 ghost use mathlib.Core.Path.{_≡_};
 ghost use Rattle.script.specs.Whole.{readScript};
-ghost use Rattle.run.specs.Holds.{Holds, HoldsOfTwo};
+ghost use Rattle.run.specs.Condition3.{Condition3OfRun, Condition3OfTwo};
 ghost use Rattle.run.specs.Outcome.{fewerOf, Refuses, RunsFirst, outcomeIn, runScript};
 use answer::Answer;
 use drive::Drive;
@@ -73,7 +73,7 @@ fn run_first(script: &[u8], count: usize, answers: &mut [u8], stops: &mut [u8]) 
 // Runs the first events of a script, at most so many, and writes the answer and the stops of each into the two buffers.
 pub fn run(script: &[u8], most: u64, answers: &mut [u8], stops: &mut [u8]) -> Ran
     ensures { λ r. ⌜ outcomeIn r (now (answers .exit)) (now (stops .exit)) ≡ runScript (readScript (now (script .entry))) most (now (answers .entry)) (now (stops .entry)) ⌝ }
-    ensures condition { λ r. ⌜ Holds (now (script .entry)) most r (now (answers .exit)) ⌝ }
+    ensures condition { λ r. ⌜ Condition3OfRun (now (script .entry)) most r (now (answers .exit)) ⌝ }
 {
     match script::check(script) {
         Checked::Reads(all) => run_first(script, fewer(all, most), answers, stops),
@@ -92,7 +92,7 @@ pub fn run_two(
 ) -> RanTwo
     ensures { λ r. ⌜ outcomeIn (r .first) (now (answers .exit)) (now (stops .exit)) ≡ runScript (readScript (now (first .entry))) 65536 (now (answers .entry)) (now (stops .entry)) ⌝ }
     ensures second { λ r. ⌜ outcomeIn (r .second) (now (answers2 .exit)) (now (stops2 .exit)) ≡ runScript (readScript (now (second .entry))) 65536 (now (answers2 .entry)) (now (stops2 .entry)) ⌝ }
-    ensures condition { λ r. ⌜ HoldsOfTwo (now (first .entry)) (now (second .entry)) r (now (answers .exit)) (now (answers2 .exit)) ⌝ }
+    ensures condition { λ r. ⌜ Condition3OfTwo (now (first .entry)) (now (second .entry)) r (now (answers .exit)) (now (answers2 .exit)) ⌝ }
 {
     let one = run(first, 65_536, answers, stops);
     let two = run(second, 65_536, answers2, stops2);

@@ -13,11 +13,11 @@ use Rattle.numbers.specs.declared.Number.{Number}
 use Rattle.numbers.specs.declared.Number.the-variants.{Is, Bad}
 use Rattle.numbers.specs.Groups.{Found, found, foundIn, numberAt}
 use Rattle.drive.specs.Events.{geometry, transfer}
-use Rattle.script.specs.declared.Five.{Five}
-use Rattle.script.specs.declared.Five.the-variants as F
-use Rattle.script.specs.declared.Part.{Part}
-use Rattle.script.specs.declared.Part.the-variants as P
-use Rattle.script.specs.Fields.{Parsed, event, broken, field, Follow, fiveIn, fiveAt, Stretch, stretch, cut, partIn, fieldTokens, tokensAt, columnAt, stretchAt, expressionAt, geometryAt, transferAt, ofKind, eventAt}
+use Rattle.script.specs.declared.FirstColumns.{FirstColumns}
+use Rattle.script.specs.declared.FirstColumns.the-variants as F
+use Rattle.script.specs.declared.BytesRead.{BytesRead}
+use Rattle.script.specs.declared.BytesRead.the-variants as P
+use Rattle.script.specs.Fields.{Parsed, event, broken, field, Follow, firstColumnsIn, firstColumnsAt, Stretch, stretch, cut, bytesReadIn, fieldTokens, tokensAt, columnAt, stretchAt, expressionAt, geometryAt, transferAt, ofKind, eventAt}
 
 -- a number that does not read, and one that does
 pub read-bad : (r : Number) (f : Found) (k : ℕ → ℕ → Parsed) → foundIn r ≡ f → r ≡ Bad → broken ≡ field f k
@@ -27,21 +27,21 @@ pub read-is : (r : Number) (f : Found) (k : ℕ → ℕ → Parsed) (v n : ℕ) 
 read-is r f k v n p e q w = w ∙ sym (ap (λ (x : Found). field x k) (sym e ∙ ap foundIn q))
 
 -- the columns of bits 1 to 16
-pub five-bad : (s : List ℕ) (at mask : ℕ) (r : Five) (k : Follow) → ((follow : Follow) → fiveIn r follow ≡ fiveAt s at mask follow) → r ≡ F.Bad
-    → broken ≡ fiveAt s at mask k
-five-bad s at mask r k e q = sym (ap (λ (x : Five). fiveIn x k) q) ∙ e k
+pub five-bad : (s : List ℕ) (at mask : ℕ) (r : FirstColumns) (k : Follow) → ((follow : Follow) → firstColumnsIn r follow ≡ firstColumnsAt s at mask follow) → r ≡ F.Bad
+    → broken ≡ firstColumnsAt s at mask k
+five-bad s at mask r k e q = sym (ap (λ (x : FirstColumns). firstColumnsIn x k) q) ∙ e k
 
-pub five-is : (s : List ℕ) (at mask : ℕ) (r : Five) (k : Follow) (a b c d e n : ℕ) (p : Parsed)
-    → ((follow : Follow) → fiveIn r follow ≡ fiveAt s at mask follow) → r ≡ F.Is a b c d e n → p ≡ k a b c d e n → p ≡ fiveAt s at mask k
-five-is s at mask r k a b c d e n p h q w = w ∙ sym (ap (λ (x : Five). fiveIn x k) q) ∙ h k
+pub five-is : (s : List ℕ) (at mask : ℕ) (r : FirstColumns) (k : Follow) (a b c d e n : ℕ) (p : Parsed)
+    → ((follow : Follow) → firstColumnsIn r follow ≡ firstColumnsAt s at mask follow) → r ≡ F.Is a b c d e n → p ≡ k a b c d e n → p ≡ firstColumnsAt s at mask k
+five-is s at mask r k a b c d e n p h q w = w ∙ sym (ap (λ (x : FirstColumns). firstColumnsIn x k) q) ∙ h k
 
 -- an expression's bytes
-pub tokens-bad : (s : List ℕ) (r : Part) (f : Stretch) (k : List ℕ → ℕ → Parsed) → partIn r ≡ f → r ≡ P.Bad → broken ≡ fieldTokens s f k
-tokens-bad s r f k e q = sym (ap (λ (x : Stretch). fieldTokens s x k) (sym e ∙ ap partIn q))
+pub tokens-bad : (s : List ℕ) (r : BytesRead) (f : Stretch) (k : List ℕ → ℕ → Parsed) → bytesReadIn r ≡ f → r ≡ P.Bad → broken ≡ fieldTokens s f k
+tokens-bad s r f k e q = sym (ap (λ (x : Stretch). fieldTokens s x k) (sym e ∙ ap bytesReadIn q))
 
-pub tokens-is : (s : List ℕ) (r : Part) (f : Stretch) (k : List ℕ → ℕ → Parsed) (start count n : ℕ) (p : Parsed) → partIn r ≡ f
+pub tokens-is : (s : List ℕ) (r : BytesRead) (f : Stretch) (k : List ℕ → ℕ → Parsed) (start count n : ℕ) (p : Parsed) → bytesReadIn r ≡ f
     → r ≡ P.Is start count n → p ≡ k (tokensAt s start count) n → p ≡ fieldTokens s f k
-tokens-is s r f k start count n p e q w = w ∙ sym (ap (λ (x : Stretch). fieldTokens s x k) (sym e ∙ ap partIn q))
+tokens-is s r f k start count n p e q w = w ∙ sym (ap (λ (x : Stretch). fieldTokens s x k) (sym e ∙ ap bytesReadIn q))
 
 -- a mask with an unknown bit, and one without
 pub mask-unknown : (mask most limit : ℕ) (x : Parsed) → limit < mask → leb most limit ≡ true → broken ≡ cond (leb mask most) x broken

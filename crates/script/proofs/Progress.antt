@@ -17,7 +17,7 @@ use Rattle.script.specs.Fields.{
   field,
   columnAt,
   Follow,
-  fiveAt,
+  firstColumnsAt,
   Stretch,
   stretch,
   cut,
@@ -168,8 +168,8 @@ unfolding transferAt
 from-transfer s at = from-three s at transfer
 
 on-five : (s : List ℕ) (at mask : ℕ) → at ≤ length s → (k : Follow) → ((a b c d e n : ℕ) → n ≤ length s → EventIn n (length s) (k a b c d e n))
-    → EventIn at (length s) (fiveAt s at mask k)
-unfolding fiveAt
+    → EventIn at (length s) (firstColumnsAt s at mask k)
+unfolding firstColumnsAt
 on-five s at mask h k g =
     on-column s at mask 1 h _ (λ a b hb. on-column s b mask 2 hb _ (λ c d hd. on-column s d mask 4 hd _ (λ e f hf. on-column s f mask 8 hf _ (λ i j hj.
     on-column s j mask 16 hj _ (λ l n hn. g a c e i l n hn)))))

@@ -9,10 +9,10 @@ use Rattle.numbers.specs.Groups.{Found, found, none, numberAt}
 use Rattle.drive.specs.Events.{Event, reading, elapse, reset, sensorSet, bandSet, geometry, transfer, eventOf}
 use Rattle.script.specs.declared.EventRead.{EventRead}
 use Rattle.script.specs.declared.EventRead.the-variants as R
-use Rattle.script.specs.declared.Five.{Five}
-use Rattle.script.specs.declared.Five.the-variants as F
-use Rattle.script.specs.declared.Part.{Part}
-use Rattle.script.specs.declared.Part.the-variants as P
+use Rattle.script.specs.declared.FirstColumns.{FirstColumns}
+use Rattle.script.specs.declared.FirstColumns.the-variants as F
+use Rattle.script.specs.declared.BytesRead.{BytesRead}
+use Rattle.script.specs.declared.BytesRead.the-variants as P
 
 -- what stands at a place: an event and the place after it, or none
 pub data Parsed : Type 0 where
@@ -32,15 +32,15 @@ columnAt s at mask bit = cond (named bit mask) (numberAt s at) (found 0 at)
 abbrev pub Follow : Type 0
 Follow = ℕ → ℕ → ℕ → ℕ → ℕ → ℕ → Parsed
 
-unfoldable pub fiveAt : List ℕ → ℕ → ℕ → Follow → Parsed
-fiveAt s at mask follow =
+unfoldable pub firstColumnsAt : List ℕ → ℕ → ℕ → Follow → Parsed
+firstColumnsAt s at mask follow =
     field (columnAt s at mask 1) (λ a at. field (columnAt s at mask 2) (λ b at. field (columnAt s at mask 4) (λ c at.
     field (columnAt s at mask 8) (λ d at. field (columnAt s at mask 16) (λ e at. follow a b c d e at)))))
 
 -- the code's answer in these terms
-abbrev pub fiveIn : Five → Follow → Parsed
-fiveIn (F.Is a b c d e next) follow = follow a b c d e next
-fiveIn F.Bad follow = broken
+abbrev pub firstColumnsIn : FirstColumns → Follow → Parsed
+firstColumnsIn (F.Is a b c d e next) follow = follow a b c d e next
+firstColumnsIn F.Bad follow = broken
 
 -- 1 "reading (sensor, value)"
 unfoldable pub readingAt : List ℕ → ℕ → Parsed
@@ -60,7 +60,7 @@ sensorSetAt s at =
     field (numberAt s at) (λ sensor at.
     field (numberAt s at) (λ mask at.
     cond (leb mask 127)
-    (fiveAt s at mask (λ enabled on-threshold on-fraction on-timeout off-threshold at.
+    (firstColumnsAt s at mask (λ enabled on-threshold on-fraction on-timeout off-threshold at.
     field (columnAt s at mask 32) (λ off-fraction at.
     field (columnAt s at mask 64) (λ off-timeout at.
     event (sensorSet sensor (record {
@@ -87,9 +87,9 @@ stretchAt s none = cut
 abbrev pub expressionAt : List ℕ → ℕ → ℕ → Stretch
 expressionAt s at mask = cond (named 32 mask) (stretchAt s (numberAt s at)) (stretch 0 0 at)
 
-abbrev pub partIn : Part → Stretch
-partIn (P.Is start count next) = stretch start count next
-partIn P.Bad = cut
+abbrev pub bytesReadIn : BytesRead → Stretch
+bytesReadIn (P.Is start count next) = stretch start count next
+bytesReadIn P.Bad = cut
 
 -- "an expression's bytes are a part of the script itself"; none where they would not lie in it
 abbrev pub tokensAt : List ℕ → ℕ → ℕ → List ℕ
@@ -105,7 +105,7 @@ bandSetAt s at =
     field (numberAt s at) (λ band at.
     field (numberAt s at) (λ mask at.
     cond (leb mask 63)
-    (fiveAt s at mask (λ read-lock-enabled write-lock-enabled read-locked write-locked lock-on-reset at.
+    (firstColumnsAt s at mask (λ read-lock-enabled write-lock-enabled read-locked write-locked lock-on-reset at.
     fieldTokens s (expressionAt s at mask) (λ tokens at.
     event (bandSet band (record {
       mask = mask;

@@ -8,9 +8,9 @@ ghost use Rattle.numbers.specs.Groups.{foundIn};
 ghost use Rattle.script.specs.Fields.{
   columnAt,
   Follow,
-  fiveIn,
-  fiveAt,
-  partIn,
+  firstColumnsIn,
+  firstColumnsAt,
+  bytesReadIn,
   expressionAt,
   parsedIn,
   readingAt,
@@ -36,13 +36,13 @@ pub enum EventRead {
 }
 
 // An expression's bytes: where they start, how many they are, and the place after them.
-pub enum Part {
+pub enum BytesRead {
     Is(usize, usize, usize),
     Bad,
 }
 
 // The columns of bits 1 to 16, by rising bit, and the place after them.
-pub enum Five {
+pub enum FirstColumns {
     Is(u64, u64, u64, u64, u64, usize),
     Bad,
 }
@@ -99,32 +99,32 @@ fn elapse_at(script: &[u8], at: usize) -> EventRead
 fn reset_at(script: &[u8], at: usize) -> EventRead
     ensures { λ r. ⌜ parsedIn (now (script .entry)) r ≡ resetAt (now (script .entry)) at ⌝ }
 {
-    let Number::Is(kind, at1) = numbers::number_at(script, at) else {
+    let Number::Is(reset_type, at1) = numbers::number_at(script, at) else {
         return EventRead::Bad;
     };
-    EventRead::Is(Kind::Reset(kind), 0, 0, at1)
+    EventRead::Is(Kind::Reset(reset_type), 0, 0, at1)
 }
 
 // The columns of bits 1 to 16, with which the values of either Set begin.
-fn five_at(script: &[u8], at: usize, mask: u64) -> Five
-    ensures { λ r. ⌜ ((follow : Follow) → fiveIn r follow ≡ fiveAt (now (script .entry)) at mask follow) ⌝ }
+fn first_columns_at(script: &[u8], at: usize, mask: u64) -> FirstColumns
+    ensures { λ r. ⌜ ((follow : Follow) → firstColumnsIn r follow ≡ firstColumnsAt (now (script .entry)) at mask follow) ⌝ }
 {
     let Number::Is(first, at1) = column_at(script, at, mask, 1) else {
-        return Five::Bad;
+        return FirstColumns::Bad;
     };
     let Number::Is(second, at2) = column_at(script, at1, mask, 2) else {
-        return Five::Bad;
+        return FirstColumns::Bad;
     };
     let Number::Is(third, at3) = column_at(script, at2, mask, 4) else {
-        return Five::Bad;
+        return FirstColumns::Bad;
     };
     let Number::Is(fourth, at4) = column_at(script, at3, mask, 8) else {
-        return Five::Bad;
+        return FirstColumns::Bad;
     };
     let Number::Is(fifth, at5) = column_at(script, at4, mask, 16) else {
-        return Five::Bad;
+        return FirstColumns::Bad;
     };
-    Five::Is(first, second, third, fourth, fifth, at5)
+    FirstColumns::Is(first, second, third, fourth, fifth, at5)
 }
 
 fn sensor_set_at(script: &[u8], at: usize) -> EventRead
@@ -139,7 +139,7 @@ fn sensor_set_at(script: &[u8], at: usize) -> EventRead
     if 127 < mask {
         return EventRead::Bad;
     }
-    let Five::Is(first, second, third, fourth, fifth, at3) = five_at(script, at2, mask) else {
+    let FirstColumns::Is(first, second, third, fourth, fifth, at3) = first_columns_at(script, at2, mask) else {
         return EventRead::Bad;
     };
     let Number::Is(off_fraction, at4) = column_at(script, at3, mask, 32) else {
@@ -162,26 +162,26 @@ fn sensor_set_at(script: &[u8], at: usize) -> EventRead
 }
 
 // Where an expression's bytes stand, where the mask names it; else no bytes.
-fn expression_at(script: &[u8], at: usize, mask: u64) -> Part
-    ensures { λ r. ⌜ partIn r ≡ expressionAt (now (script .entry)) at mask ⌝ }
+fn expression_at(script: &[u8], at: usize, mask: u64) -> BytesRead
+    ensures { λ r. ⌜ bytesReadIn r ≡ expressionAt (now (script .entry)) at mask ⌝ }
 {
     if mask / 32 % 2 == 1 {
         let Number::Is(size, at1) = numbers::number_at(script, at) else {
-            return Part::Bad;
+            return BytesRead::Bad;
         };
         if MOST_TOKENS < size {
-            return Part::Bad;
+            return BytesRead::Bad;
         }
         if script.len() < at1 {
-            return Part::Bad;
+            return BytesRead::Bad;
         }
         let count = size as usize;
         if script.len() - at1 < count {
-            return Part::Bad;
+            return BytesRead::Bad;
         }
-        return Part::Is(at1, count, at1 + count);
+        return BytesRead::Is(at1, count, at1 + count);
     }
-    Part::Is(0, 0, at)
+    BytesRead::Is(0, 0, at)
 }
 
 fn band_set_at(script: &[u8], at: usize) -> EventRead
@@ -196,10 +196,10 @@ fn band_set_at(script: &[u8], at: usize) -> EventRead
     if 63 < mask {
         return EventRead::Bad;
     }
-    let Five::Is(first, second, third, fourth, fifth, at3) = five_at(script, at2, mask) else {
+    let FirstColumns::Is(first, second, third, fourth, fifth, at3) = first_columns_at(script, at2, mask) else {
         return EventRead::Bad;
     };
-    let Part::Is(start, count, at4) = expression_at(script, at3, mask) else {
+    let BytesRead::Is(start, count, at4) = expression_at(script, at3, mask) else {
         return EventRead::Bad;
     };
     let columns = BandColumns {

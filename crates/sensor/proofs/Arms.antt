@@ -12,7 +12,7 @@ use Rattle.phases.specs.declared.Move.the-variants.{Stays, Enters}
 use Rattle.phases.specs.declared.Cause.{Cause}
 use Rattle.sensor.specs.declared.single.Sensor.{Sensor}
 use Rattle.phases.specs.Phases.{moveOf, levelAfter}
-use Rattle.sensor.specs.Single.{withLevel, movedBy, entering, stepOf, turnCause, turnedTo, judgeOf, readingOf, readingAnswer, quietOf, withTimer, loweredBy}
+use Rattle.sensor.specs.Single.{withLevel, movedBy, entering, afterCause, turnCause, turnedTo, judgeOf, readingOf, readingAnswer, quietOf, withTimer, loweredBy}
 use Rattle.sensor.specs.Level.{greatestReading}
 use Rattle.sensor.specs.declared.columns.SensorColumns.{SensorColumns}
 use Rattle.sensor.specs.Columns.{columnsFit, setAnswer, storedOf, switchedOf, setOf}
@@ -20,21 +20,21 @@ use Rattle.sensor.specs.Columns.{columnsFit, setAnswer, storedOf, switch
 -- a step: the level, and then the move
 
 module _ (c : Cause) (s n : Sensor) (l : Bool) (m : Move) (el : l ≡ levelAfter c (s .level)) (en : n ≡ withLevel l s) (em : m ≡ moveOf (s .phase) c) where
-  stepped : movedBy m n ≡ stepOf c s
-  unfolding stepOf
+  stepped : movedBy m n ≡ afterCause c s
+  unfolding afterCause
   stepped =
       ap (movedBy m) (en ∙ ap (λ (x : Bool). withLevel x s) el) ∙ ap (λ (x : Move). movedBy x (withLevel (levelAfter c (s .level)) s)) em
 
-  pub stays : m ≡ Stays → n ≡ stepOf c s
+  pub stays : m ≡ Stays → n ≡ afterCause c s
   stays e = ap (λ (x : Move). movedBy x n) (sym e) ∙ stepped
 
-  pub enters : (p : Phase) (r : Sensor) → m ≡ Enters p → r ≡ entering p n → r ≡ stepOf c s
+  pub enters : (p : Phase) (r : Sensor) → m ≡ Enters p → r ≡ entering p n → r ≡ afterCause c s
   enters p r e q = q ∙ ap (λ (x : Move). movedBy x n) (sym e) ∙ stepped
 
-pub turned : (l t : Bool) (s r : Sensor) (c : Cause) → t ≡ Bool·beq l (s .level) → t ≡ false → c ≡ turnCause l s → r ≡ stepOf c s
+pub turned : (l t : Bool) (s r : Sensor) (c : Cause) → t ≡ Bool·beq l (s .level) → t ≡ false → c ≡ turnCause l s → r ≡ afterCause c s
     → r ≡ turnedTo l s
 unfolding turnedTo
-turned l t s r c p e q w = cond-false (Bool·beq l (s .level)) _ _ _ (sym p ∙ e) (w ∙ ap (λ (x : Cause). stepOf x s) q)
+turned l t s r c p e q w = cond-false (Bool·beq l (s .level)) _ _ _ (sym p ∙ e) (w ∙ ap (λ (x : Cause). afterCause x s) q)
 
 pub beq-true : (a b : Bool) → a ≡ true → b ≡ Bool·beq a b
 beq-true true true e = refl

@@ -17,7 +17,7 @@ use Rattle.phases.specs.Phases.{moveOf, levelAfter}
 use Rattle.sensor.specs.declared.single.Sensor.{Sensor}
 use Rattle.sensor.specs.declared.columns.SensorColumns.{SensorColumns}
 use Rattle.sensor.specs.Level.{greatestReading}
-use Rattle.sensor.specs.Single.{freshSensor, withLevel, withTimer, timerIn, movedBy, stepOf, judgeOf, turnCause, turnedTo, readingOf, enableCause, enableOf, disableOf, powerCycleOf, tickOf}
+use Rattle.sensor.specs.Single.{freshSensor, withLevel, withTimer, timerIn, movedBy, afterCause, judgeOf, turnCause, turnedTo, readingOf, enableCause, enableOf, disableOf, powerCycleOf, sensorTick}
 use Rattle.sensor.specs.Columns.{greatestNumber, columnsFit, storedOf, switchedOf, setOf}
 use Rattle.sensor.specs.Sound.{Timed}
 use Rattle.sensor.proofs.Fits.{fitting}
@@ -41,21 +41,21 @@ moved-timed : (m : Move) (l : Bool) (s : Sensor) → Timed s → Timed (movedBy 
 moved-timed Stays l s h = record { on = h .on; off = h .off; timer = h .timer }
 moved-timed (Enters p) l s h = record { on = h .on; off = h .off; timer = entered p l s h }
 
-step-timed : (c : Cause) (s : Sensor) → Timed s → Timed (stepOf c s)
-unfolding stepOf
+step-timed : (c : Cause) (s : Sensor) → Timed s → Timed (afterCause c s)
+unfolding afterCause
 step-timed c s h = moved-timed (moveOf (s .phase) c) (levelAfter c (s .level)) s h
 
 pub reading-timed : (v : ℕ) (s : Sensor) → Timed s → Timed (readingOf v s)
 unfolding readingOf turnedTo
 reading-timed v s h =
     either (ltb greatestReading v) s (turnedTo (judgeOf v s) s) h
-    (either (Bool·beq (judgeOf v s) (s .level)) s (stepOf (turnCause (judgeOf v s) s) s) h (step-timed (turnCause (judgeOf v s) s) s h))
+    (either (Bool·beq (judgeOf v s) (s .level)) s (afterCause (turnCause (judgeOf v s) s) s) h (step-timed (turnCause (judgeOf v s) s) s h))
 
-pub tick-timed : (s : Sensor) → Timed s → Timed (tickOf s)
-unfolding tickOf
+pub tick-timed : (s : Sensor) → Timed s → Timed (sensorTick s)
+unfolding sensorTick
 tick-timed s h =
-    either (eqb (s .timer) 0) s (cond (eqb (s .timer) 1) (stepOf TimerEnds s) (withTimer (s .timer - 1) s)) h
-    (either (eqb (s .timer) 1) (stepOf TimerEnds s) (withTimer (s .timer - 1) s) (step-timed TimerEnds s h)
+    either (eqb (s .timer) 0) s (cond (eqb (s .timer) 1) (afterCause TimerEnds s) (withTimer (s .timer - 1) s)) h
+    (either (eqb (s .timer) 1) (afterCause TimerEnds s) (withTimer (s .timer - 1) s) (step-timed TimerEnds s h)
     (record { on = h .on; off = h .off; timer = omega (arith, h .timer) }))
 
 pub cycle-timed : (s : Sensor) → Timed s → Timed (powerCycleOf s)

@@ -2,7 +2,7 @@
 use Prim.Native.Nat.{ℕ}
 use Rattle.sensor.specs.declared.single.Sensor.{Sensor}
 use Rattle.sensor.specs.declared.columns.SensorColumns.{SensorColumns}
-use Rattle.sensor.specs.Single.{freshSensor, readingOf, powerCycleOf, tickOf}
+use Rattle.sensor.specs.Single.{freshSensor, readingOf, powerCycleOf, sensorTick}
 use Rattle.sensor.specs.Columns.{setOf}
 use Rattle.sensor.specs.Sound.{Sound, Timed}
 use Rattle.sensor.proofs.Soundness.{fresh-sound, tick-sound, reading-sound, power-cycle-sound, set-sound}
@@ -13,7 +13,7 @@ pub record Keeps (P : Sensor → Type 0) : Type 0 where
   pub fresh : P freshSensor
   pub reading : (v : ℕ) (s : Sensor) → P s → P (readingOf v s)
   pub set : (c : SensorColumns) (s : Sensor) → P s → P (setOf c s)
-  pub tick : (s : Sensor) → P s → P (tickOf s)
+  pub tick : (s : Sensor) → P s → P (sensorTick s)
   pub cycle : (s : Sensor) → P s → P (powerCycleOf s)
 
 pub keeps-sound : Keeps Sound

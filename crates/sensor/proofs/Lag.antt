@@ -10,15 +10,15 @@ use Rattle.phases.specs.declared.Phase.the-variants.{SS0, ST0, SS1, ST1, SS2}
 use Rattle.phases.specs.declared.Cause.the-variants.{TimerEnds}
 use Rattle.sensor.specs.declared.single.Sensor.{Sensor}
 use Rattle.phases.specs.Phases.{conditionIn, settled, moveOf}
-use Rattle.sensor.specs.Single.{tickOf, stepOf, loweredBy, endsNext}
+use Rattle.sensor.specs.Single.{sensorTick, afterCause, loweredBy, endsNext}
 use Rattle.sensor.specs.Sound.{TimerAgrees, LevelAgrees, Sound}
 use Rattle.sensor.proofs.Ticks.{QuietFor, quiet-below, sensor-jumps, tick-last}
 
-lowered : (k : ℕ) (s : Sensor) → k < s .timer → ticks tickOf k s ≡ loweredBy k s
+lowered : (k : ℕ) (s : Sensor) → k < s .timer → ticks sensorTick k s ≡ loweredBy k s
 lowered k s h =
-    quiet-ticks tickOf endsNext loweredBy (λ n x. QuietFor n (x .timer)) sensor-jumps k s (quiet-below k (s .timer) h)
+    quiet-ticks sensorTick endsNext loweredBy (λ n x. QuietFor n (x .timer)) sensor-jumps k s (quiet-below k (s .timer) h)
 
-pub lag-old : (s : Sensor) (k : ℕ) → k < s .timer → ticks tickOf k s .condition ≡ s .condition
+pub lag-old : (s : Sensor) (k : ℕ) → k < s .timer → ticks sensorTick k s .condition ≡ s .condition
 lag-old s k h = ap (λ (x : Sensor). x .condition) (lowered k s h)
 
 -- a sound sensor whose timer runs settles at its level
@@ -29,17 +29,17 @@ settles SS1 t l c e k h = absurd (omega arith)
 settles ST1 t l c e k h = sym k
 settles SS2 t l c e k h = absurd (omega arith)
 
-ended : (s : Sensor) → stepOf TimerEnds s .condition ≡ conditionIn (settled (s .phase)) (s .condition)
-unfolding stepOf moveOf
+ended : (s : Sensor) → afterCause TimerEnds s .condition ≡ conditionIn (settled (s .phase)) (s .condition)
+unfolding afterCause moveOf
 ended s = refl
 
-pub lag-new : (s : Sensor) → Sound s → 0 < s .timer → ticks tickOf (s .timer) s .condition ≡ s .level
+pub lag-new : (s : Sensor) → Sound s → 0 < s .timer → ticks sensorTick (s .timer) s .condition ≡ s .level
 unfolding ticks
 lag-new s v h =
     let k : ℕ = s .timer - 1 in
     let e : s .timer ≡ k + 1 = omega arith in
-    ap (λ (n : ℕ). ticks tickOf n s .condition) e
+    ap (λ (n : ℕ). ticks sensorTick n s .condition) e
     ∙ ap (λ (x : Sensor). x .condition)
-    (ticks-add tickOf k 1 s ∙ ap tickOf (lowered k s (omega arith)) ∙ tick-last (loweredBy k s) (omega arith))
+    (ticks-add sensorTick k 1 s ∙ ap sensorTick (lowered k s (omega arith)) ∙ tick-last (loweredBy k s) (omega arith))
     ∙ ended (loweredBy k s)
     ∙ settles (s .phase) (s .timer) (s .level) (s .condition) (v .timer) (v .level) h

@@ -1,4 +1,4 @@
--- What single moves do to a sensor: laws of `stepOf` by cause.
+-- What single moves do to a sensor: laws of `afterCause` by cause.
 use mathlib.Core.Path.{_≡_, refl, sym, ap, _∙_}
 use mathlib.Core.Bool.{Bool, true, false, cond, Bool·beq, false≢true}
 use Prim.Native.Nat.{ℕ, _-_, _≤_}
@@ -30,12 +30,12 @@ use Rattle.sensor.specs.Single.{
   movedBy,
   withLevel,
   withTimer,
-  stepOf,
+  afterCause,
   timerIn,
   turnCause,
   turnedTo,
   enableOf,
-  tickOf,
+  sensorTick,
   loweredBy,
   powerCycleOf,
 }
@@ -48,8 +48,8 @@ settled-off ST1 s = refl
 settled-off SS2 s = refl
 
 -- a timer that ends does not run any more
-pub ended-stops : (s : Sensor) → stepOf TimerEnds s .timer ≡ 0
-unfolding stepOf moveOf
+pub ended-stops : (s : Sensor) → afterCause TimerEnds s .timer ≡ 0
+unfolding afterCause moveOf
 ended-stops s = settled-off (s .phase) s
 
 -- ---- a turn of the level, by side
@@ -72,14 +72,14 @@ turn-cause : (l : Bool) (s : Sensor) (b : Bool) → eqb (timeoutTo l s) 0 ≡ b
 turn-cause true s b e = ap (λ (x : Bool). cond x TrueAtOnce TrueWaiting) e
 turn-cause false s b e = ap (λ (x : Bool). cond x FalseAtOnce FalseWaiting) e
 
-turns : (l : Bool) (s : Sensor) (c : Cause) → Bool·beq l (s .level) ≡ false → turnCause l s ≡ c → turnedTo l s ≡ stepOf c s
+turns : (l : Bool) (s : Sensor) (c : Cause) → Bool·beq l (s .level) ≡ false → turnCause l s ≡ c → turnedTo l s ≡ afterCause c s
 unfolding turnedTo
-turns l s c e q = sym (cond-false (Bool·beq l (s .level)) s _ _ e (ap (λ (x : Cause). stepOf x s) (sym q)))
+turns l s c e q = sym (cond-false (Bool·beq l (s .level)) s _ _ e (ap (λ (x : Cause). afterCause x s) (sym q)))
 
 -- an enabled sensor whose level turns waits with the condition as it was, for as many ticks as its timeout says
 pub turn-waits : (l : Bool) (s : Sensor) → isEnabled (s .phase) ≡ true → Bool·beq l (s .level) ≡ false → (timeoutTo l s ≡ 0 → ⊥)
     → turnedTo l s ≡ moved l (waitingAt l) (s .condition) (timeoutTo l s) s
-unfolding stepOf moveOf
+unfolding afterCause moveOf
 turn-waits true s e d n =
     turns true s TrueWaiting d (turn-cause true s false (ne-eqb (timeoutTo true s) 0 n)) ∙ rw (enters-enabled (s .phase) ST0 e)
 turn-waits false s e d n =
@@ -88,7 +88,7 @@ turn-waits false s e d n =
 -- and settles at once where its timeout is 0
 pub turn-settles : (l : Bool) (s : Sensor) → isEnabled (s .phase) ≡ true → Bool·beq l (s .level) ≡ false → timeoutTo l s ≡ 0
     → turnedTo l s ≡ moved l (settledAt l) l 0 s
-unfolding stepOf moveOf
+unfolding afterCause moveOf
 turn-settles true s e d n =
     turns true s TrueAtOnce d (turn-cause true s true (eq-eqb (timeoutTo true s) 0 n)) ∙ rw (enters-enabled (s .phase) SS1 e)
 turn-settles false s e d n =
@@ -96,8 +96,8 @@ turn-settles false s e d n =
 
 -- the level of a disabled sensor turns alone
 off-step : (l b : Bool) (s : Sensor) → s .phase ≡ SS0
-    → stepOf (cond l (cond b TrueAtOnce TrueWaiting) (cond b FalseAtOnce FalseWaiting)) s ≡ withLevel l s
-unfolding stepOf moveOf
+    → afterCause (cond l (cond b TrueAtOnce TrueWaiting) (cond b FalseAtOnce FalseWaiting)) s ≡ withLevel l s
+unfolding afterCause moveOf
 off-step true true s e = rw e
 off-step true false s e = rw e
 off-step false true s e = rw e
@@ -113,22 +113,22 @@ pub turn-off : (l : Bool) (s : Sensor) → s .phase ≡ SS0 → turnedTo l s ≡
 unfolding turnedTo
 turn-off l s e = go (Bool·beq l (s .level)) refl
   where
-    go : (b : Bool) → Bool·beq l (s .level) ≡ b → cond b s (stepOf (turnCause l s) s) ≡ withLevel l s
+    go : (b : Bool) → Bool·beq l (s .level) ≡ b → cond b s (afterCause (turnCause l s) s) ≡ withLevel l s
     go true h = ap (λ (x : Bool). withLevel x s) (same-level l (s .level) h)
-    go false h = ap (λ (c : Cause). stepOf c s) (turn-cause l s (eqb (timeoutTo l s) 0) refl) ∙ off-step l (eqb (timeoutTo l s) 0) s e
+    go false h = ap (λ (c : Cause). afterCause c s) (turn-cause l s (eqb (timeoutTo l s) 0) refl) ∙ off-step l (eqb (timeoutTo l s) 0) s e
 
 -- enabling an enabled sensor does nothing
 pub enable-again : (s : Sensor) → isEnabled (s .phase) ≡ true → enableOf s ≡ s
-unfolding enableOf stepOf moveOf
+unfolding enableOf afterCause moveOf
 enable-again s e = go (s .level)
   where
     stay : (q : Phase) → movedBy (whenDisabled (s .phase) q) s ≡ s
     stay q = ap (λ (b : Bool). movedBy (cond b Stays (Enters q)) s) e
 
-    go : (l : Bool) → stepOf (cond l (cond (eqb (s .«on_timeout») 0) EnabledTrueAtOnce EnabledTrueWaiting) EnabledFalse) s ≡ s
+    go : (l : Bool) → afterCause (cond l (cond (eqb (s .«on_timeout») 0) EnabledTrueAtOnce EnabledTrueWaiting) EnabledFalse) s ≡ s
     go true = at (eqb (s .«on_timeout») 0)
       where
-        at : (b : Bool) → stepOf (cond b EnabledTrueAtOnce EnabledTrueWaiting) s ≡ s
+        at : (b : Bool) → afterCause (cond b EnabledTrueAtOnce EnabledTrueWaiting) s ≡ s
         at true = stay SS1
         at false = stay ST0
     go false = stay SS2
@@ -151,14 +151,14 @@ move-keeps (Enters ST1) s e = refl
 move-keeps (Enters SS2) s e = absurd (false≢true e)
 
 -- a sensor that waits after a cause has the condition of before it
-pub step-keeps : (c : Cause) (s : Sensor) → isWaiting (stepOf c s .phase) ≡ true → stepOf c s .condition ≡ s .condition
-unfolding stepOf
+pub step-keeps : (c : Cause) (s : Sensor) → isWaiting (afterCause c s .phase) ≡ true → afterCause c s .condition ≡ s .condition
+unfolding afterCause
 step-keeps c s e = move-keeps (moveOf (s .phase) c) (withLevel (levelAfter c (s .level)) s) e
 
 -- ---- the fresh sensor stays as it is
 
-pub fresh-tick : tickOf freshSensor ≡ freshSensor
-unfolding tickOf freshSensor
+pub fresh-tick : sensorTick freshSensor ≡ freshSensor
+unfolding sensorTick freshSensor
 fresh-tick = refl
 
 pub fresh-lowered : (k : ℕ) → loweredBy k freshSensor ≡ freshSensor
@@ -166,7 +166,7 @@ unfolding freshSensor
 fresh-lowered k = let e : 0 - k ≡ 0 = omega arith in ap (λ (t : ℕ). withTimer t freshSensor) e
 
 pub fresh-power-cycle : powerCycleOf freshSensor ≡ freshSensor
-unfolding powerCycleOf stepOf moveOf freshSensor
+unfolding powerCycleOf afterCause moveOf freshSensor
 fresh-power-cycle = refl
 
 -- ---- what a power cycle leaves as it is
@@ -180,9 +180,9 @@ module _ (s : Sensor) (a : s .level ≡ false) (c : s .condition ≡ false) (d :
   zero-timer = omega (arith, d)
 
   pub rests-disabled : s .phase ≡ SS0 → powerCycleOf s ≡ s
-  unfolding powerCycleOf stepOf moveOf
+  unfolding powerCycleOf afterCause moveOf
   rests-disabled e = ap (λ (p : Phase). movedBy (moveOf p PowerCycle) (withLevel false s)) e ∙ as-it-is SS0 s a e c zero-timer
 
   pub rests-settled : s .phase ≡ SS2 → powerCycleOf s ≡ s
-  unfolding powerCycleOf stepOf moveOf
+  unfolding powerCycleOf afterCause moveOf
   rests-settled e = ap (λ (p : Phase). movedBy (moveOf p PowerCycle) (withLevel false s)) e ∙ as-it-is SS2 s a e c zero-timer

@@ -35,7 +35,7 @@ use Rattle.sensor.specs.Single.{
   timerIn,
   entering,
   movedBy,
-  stepOf,
+  afterCause,
   judgeOf,
   turnCause,
   turnedTo,
@@ -44,7 +44,7 @@ use Rattle.sensor.specs.Single.{
   enableOf,
   disableOf,
   powerCycleOf,
-  tickOf,
+  sensorTick,
   loweredBy,
 }
 use Rattle.sensor.specs.Columns.{greatestFraction, columnsFit, storedOf, switchedOf, setOf}
@@ -147,8 +147,8 @@ cycles s SS1 h = enters SS2 s false SS1 h refl refl
 cycles s ST1 h = enters SS2 s false ST1 h refl refl
 cycles s SS2 h = enters SS2 s false SS2 h refl refl
 
-pub step-sound : (c : Cause) (s : Sensor) → Meets c s → Sound s → Sound (stepOf c s)
-unfolding stepOf moveOf
+pub step-sound : (c : Cause) (s : Sensor) → Meets c s → Sound s → Sound (afterCause c s)
+unfolding afterCause moveOf
 step-sound TrueAtOnce s m h = turns s true SS1 refl refl (s .phase) h
 step-sound TrueWaiting s m h = turns s true ST0 m refl (s .phase) h
 step-sound FalseAtOnce s m h = turns s false SS2 refl refl (s .phase) h
@@ -182,7 +182,7 @@ either false x y f g = g refl
 pub turn-sound : (l : Bool) (s : Sensor) → Sound s → Sound (turnedTo l s)
 unfolding turnedTo
 turn-sound l s h =
-    either (Bool·beq l (s .level)) s (stepOf (turnCause l s) s) (λ e. h) (λ e. step-sound (turnCause l s) s (turn-meets l s) h)
+    either (Bool·beq l (s .level)) s (afterCause (turnCause l s) s) (λ e. h) (λ e. step-sound (turnCause l s) s (turn-meets l s) h)
 
 pub reading-sound : (v : ℕ) (s : Sensor) → Sound s → Sound (readingOf v s)
 unfolding readingOf
@@ -205,11 +205,11 @@ timer-sound s t f g h = record {
   «off_fraction» = h .«off_fraction»;
 }
 
-pub tick-sound : (s : Sensor) → Sound s → Sound (tickOf s)
-unfolding tickOf
+pub tick-sound : (s : Sensor) → Sound s → Sound (sensorTick s)
+unfolding sensorTick
 tick-sound s h =
     either (eqb (s .timer) 0) s _ (λ e. h)
-    (λ e. either (eqb (s .timer) 1) (stepOf TimerEnds s) (withTimer (s .timer - 1) s) (λ f. step-sound TimerEnds s tt h)
+    (λ e. either (eqb (s .timer) 1) (afterCause TimerEnds s) (withTimer (s .timer - 1) s) (λ f. step-sound TimerEnds s tt h)
     (λ f. timer-sound s (s .timer - 1) (omega arith) (λ z. absurd (more (eqb-false (s .timer) 0 e) (eqb-false (s .timer) 1 f) z)) h))
   where
     more : (s .timer ≡ 0 → ⊥) → (s .timer ≡ 1 → ⊥) → s .timer - 1 ≡ 0 → ⊥

@@ -12,26 +12,26 @@ use Rattle.base.proofs.Lists.{oneIf-le}
 use Rattle.base.proofs.Jumps.{Jumps}
 use Rattle.sensor.specs.declared.single.Sensor.{Sensor}
 use Rattle.phases.specs.declared.Cause.the-variants.{TimerEnds}
-use Rattle.sensor.specs.Single.{tickOf, stepOf, withTimer, loweredBy, endsNext, runs, quietOf}
+use Rattle.sensor.specs.Single.{sensorTick, afterCause, withTimer, loweredBy, endsNext, runs, quietOf}
 use Rattle.sensor.proofs.Motion.{ended-stops}
 
 -- ---- one sensor
 
-pub tick-none : (s : Sensor) → s .timer ≡ 0 → tickOf s ≡ s
-unfolding tickOf
+pub tick-none : (s : Sensor) → s .timer ≡ 0 → sensorTick s ≡ s
+unfolding sensorTick
 tick-none s e = sym (cond-true (eqb (s .timer) 0) s _ _ (eq-eqb (s .timer) 0 e) refl)
 
-pub tick-last : (s : Sensor) → s .timer ≡ 1 → tickOf s ≡ stepOf TimerEnds s
-unfolding tickOf
+pub tick-last : (s : Sensor) → s .timer ≡ 1 → sensorTick s ≡ afterCause TimerEnds s
+unfolding sensorTick
 tick-last s e =
     sym (cond-false (eqb (s .timer) 0) s _ _ (ne-eqb (s .timer) 0 (omega arith)) (cond-true (eqb (s .timer) 1) _ _ _ (eq-eqb (s .timer) 1 e) refl))
 
-pub tick-more : (s : Sensor) → 1 < s .timer → tickOf s ≡ withTimer (s .timer - 1) s
-unfolding tickOf
+pub tick-more : (s : Sensor) → 1 < s .timer → sensorTick s ≡ withTimer (s .timer - 1) s
+unfolding sensorTick
 tick-more s h =
     sym
     (cond-false (eqb (s .timer) 0) s _ _ (ne-eqb (s .timer) 0 (omega arith))
-    (cond-false (eqb (s .timer) 1) (stepOf TimerEnds s) _ _ (ne-eqb (s .timer) 1 (omega arith)) refl))
+    (cond-false (eqb (s .timer) 1) (afterCause TimerEnds s) _ _ (ne-eqb (s .timer) 1 (omega arith)) refl))
 
 -- a timer with t ticks to go does not end within k ticks
 abbrev pub QuietFor : ℕ → ℕ → Type 0
@@ -58,7 +58,7 @@ not-last k (suc t) q e = omega arith
 same-timer : (s : Sensor) (t : ℕ) → t ≡ s .timer → withTimer t s ≡ s
 same-timer s t e = ap (λ (n : ℕ). withTimer n s) e
 
-pub tick-lowers : (k : ℕ) (s : Sensor) (t : ℕ) → s .timer ≡ t → QuietFor (suc k) t → tickOf s ≡ loweredBy 1 s
+pub tick-lowers : (k : ℕ) (s : Sensor) (t : ℕ) → s .timer ≡ t → QuietFor (suc k) t → sensorTick s ≡ loweredBy 1 s
 tick-lowers k s zero e q = tick-none s e ∙ sym (same-timer s (s .timer - 1) (omega arith))
 tick-lowers k s (suc t) e q = tick-more s (omega arith)
 
@@ -69,7 +69,7 @@ pub lowered-more : (k : ℕ) (s : Sensor) → loweredBy k (loweredBy 1 s) ≡ lo
 lowered-more k s = let e : s .timer - 1 - k ≡ s .timer - suc k = omega arith in ap (λ (n : ℕ). withTimer n s) e
 
 -- lowering by k stands for k quiet ticks of one sensor
-pub sensor-jumps : Jumps tickOf endsNext loweredBy (λ k s. QuietFor k (s .timer))
+pub sensor-jumps : Jumps sensorTick endsNext loweredBy (λ k s. QuietFor k (s .timer))
 sensor-jumps = record {
   none = λ s q. lowered-none s;
   more = λ k s q. lowered-more k s;
@@ -105,16 +105,16 @@ quietOf-most n s = go (eqb (s .timer) 0) refl
     go false e = on (ltb (s .timer - 1) n) (eqb-false (s .timer) 0 e) refl
 
 -- a timer that ends does not run any more, and no timer starts
-pub ends-runs : (s : Sensor) (t : ℕ) → s .timer ≡ t → oneIf (endsNext s) + oneIf (runs (tickOf s)) ≤ oneIf (runs s)
+pub ends-runs : (s : Sensor) (t : ℕ) → s .timer ≡ t → oneIf (endsNext s) + oneIf (runs (sensorTick s)) ≤ oneIf (runs s)
 ends-runs s zero e = rw (tick-none s e, e) (omega arith)
 ends-runs s (suc zero) e = rw (tick-last s e, ended-stops s, e) (omega arith)
 ends-runs s (suc (suc t)) e =
-    let f : tickOf s .timer ≡ s .timer - 1 = ap (λ (x : Sensor). x .timer) (tick-more s (omega arith)) in
+    let f : sensorTick s .timer ≡ s .timer - 1 = ap (λ (x : Sensor). x .timer) (tick-more s (omega arith)) in
     omega (
       arith,
       ap oneIf (ne-eqb (s .timer) 1 (omega arith)),
       ap oneIf (lt-ltb 0 (s .timer) (omega arith)),
-      ap oneIf (lt-ltb 0 (tickOf s .timer) (omega arith)),
+      ap oneIf (lt-ltb 0 (sensorTick s .timer) (omega arith)),
     )
 
 pub runs-less : (k t : ℕ) → oneIf (ltb 0 (t - k)) ≤ oneIf (ltb 0 t)

@@ -82,8 +82,8 @@ movedBy Stays s = s
 movedBy (Enters p) s = entering p s
 
 -- the sensor after a cause
-unfoldable pub stepOf : Cause → Sensor → Sensor
-stepOf c s = movedBy (moveOf (s .phase) c) (withLevel (levelAfter c (s .level)) s)
+unfoldable pub afterCause : Cause → Sensor → Sensor
+afterCause c s = movedBy (moveOf (s .phase) c) (withLevel (levelAfter c (s .level)) s)
 
 -- On and Off, in thousandths
 abbrev pub onOf : Sensor → ℕ
@@ -103,7 +103,7 @@ turnCause l s =
 
 -- the sensor once its level is l: it turns only where the level was another
 unfoldable pub turnedTo : Bool → Sensor → Sensor
-turnedTo l s = cond (Bool·beq l (s .level)) s (stepOf (turnCause l s) s)
+turnedTo l s = cond (Bool·beq l (s .level)) s (afterCause (turnCause l s) s)
 
 -- 2 "out of range: a field exceeds its range": the refusals of a reading of a sensor that is there
 abbrev pub readingRefusals : ℕ → List Refusal
@@ -120,19 +120,19 @@ abbrev pub enableCause : Sensor → Cause
 enableCause s = cond (s .level) (cond (eqb (s .«on_timeout») 0) EnabledTrueAtOnce EnabledTrueWaiting) EnabledFalse
 
 unfoldable pub enableOf : Sensor → Sensor
-enableOf s = stepOf (enableCause s) s
+enableOf s = afterCause (enableCause s) s
 
 -- "Disabling gives SS0 and stops the timer."
 unfoldable pub disableOf : Sensor → Sensor
-disableOf s = stepOf Disabled s
+disableOf s = afterCause Disabled s
 
 -- "A power cycle then sets each level FALSE and each sensor to SS2 if enabled, else SS0, timers stopped, columns kept."
 unfoldable pub powerCycleOf : Sensor → Sensor
-powerCycleOf s = stepOf PowerCycle s
+powerCycleOf s = afterCause PowerCycle s
 
 -- "One tick takes 1 from every running timer; those that reach 0 settle"
-unfoldable pub tickOf : Sensor → Sensor
-tickOf s = cond (eqb (s .timer) 0) s (cond (eqb (s .timer) 1) (stepOf TimerEnds s) (withTimer (s .timer - 1) s))
+unfoldable pub sensorTick : Sensor → Sensor
+sensorTick s = cond (eqb (s .timer) 0) s (cond (eqb (s .timer) 1) (afterCause TimerEnds s) (withTimer (s .timer - 1) s))
 
 -- the timer runs; it ends at the next tick
 abbrev pub runs : Sensor → Bool

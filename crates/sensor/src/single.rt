@@ -2,7 +2,7 @@
 ghost use mathlib.Core.Path.{_≡_};
 ghost use mathlib.Core.Bool.{true, Bool·beq};
 ghost use Rattle.sensor.specs.Level.{thousandths, levelRule};
-ghost use Rattle.sensor.specs.Single.{freshSensor, judgeOf, withLevel, withTimer, timerIn, entering, stepOf, turnCause, turnedTo, readingAnswer, readingOf, enableCause, enableOf, disableOf, powerCycleOf, tickOf, loweredBy, runs, endsNext, quietOf, Answers};
+ghost use Rattle.sensor.specs.Single.{freshSensor, judgeOf, withLevel, withTimer, timerIn, entering, afterCause, turnCause, turnedTo, readingAnswer, readingOf, enableCause, enableOf, disableOf, powerCycleOf, sensorTick, loweredBy, runs, endsNext, quietOf, Answers};
 use answer::Answer;
 use phases::Cause;
 use phases::Move;
@@ -104,7 +104,7 @@ impl Sensor {
 
     // The sensor after a cause.
     pub fn step(self, cause: Cause) -> Sensor
-        ensures { λ r. ⌜ r ≡ stepOf cause self ⌝ }
+        ensures { λ r. ⌜ r ≡ afterCause cause self ⌝ }
     {
         let phase = self.phase;
         let level = cause.level(self.level);
@@ -217,7 +217,7 @@ impl Sensor {
     }
 
     pub fn tick(self) -> Sensor
-        ensures { λ r. ⌜ r ≡ tickOf self ⌝ }
+        ensures { λ r. ⌜ r ≡ sensorTick self ⌝ }
     {
         if self.timer == 0 {
             return self;

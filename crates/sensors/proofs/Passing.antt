@@ -15,7 +15,7 @@ use Rattle.base.proofs.Jumps.{stops-bound}
 use Rattle.base.proofs.Turns.{Turnable, QuietMost, Running, run-state, run-stops}
 use Rattle.base.proofs.Turns.{turned as turned-any}
 use Rattle.sensor.specs.declared.single.Sensor.{Sensor}
-use Rattle.sensor.specs.Single.{tickOf, loweredBy, endsNext, runs}
+use Rattle.sensor.specs.Single.{sensorTick, loweredBy, endsNext, runs}
 use Rattle.sensors.specs.declared.Turn.{Turn}
 use Rattle.sensors.specs.Sixteen.{quietTicks, tickAndQuiet, turnOf, Passes}
 use Rattle.sensors.proofs.Quiet.{
@@ -31,7 +31,7 @@ use Rattle.sensors.proofs.Quiet.{
 abbrev lowered : ℕ → List Sensor → List Sensor
 lowered k l = map (loweredBy k) l
 
-turnable : Turnable (map tickOf) (any endsNext) lowered (count runs) AllQuiet
+turnable : Turnable (map sensorTick) (any endsNext) lowered (count runs) AllQuiet
 turnable = record { jumps = sensors-jump; falls = stop-uses; starts-none = lowered-running }
 
 -- the quiet ticks that the code counts are all that there are
@@ -43,7 +43,7 @@ quiet-most m k l e = record {
 }
 
 -- a turn as the code makes it
-pub turned : (n k : ℕ) (l t j : List Sensor) (b : Bool) (one : ℕ) → n ≢ 0 → b ≡ any endsNext l → t ≡ map tickOf l → k ≡ quietTicks (n - 1) t
+pub turned : (n k : ℕ) (l t j : List Sensor) (b : Bool) (one : ℕ) → n ≢ 0 → b ≡ any endsNext l → t ≡ map sensorTick l → k ≡ quietTicks (n - 1) t
     → j ≡ map (loweredBy k) t → one ≡ oneIf b → record { sensors = j; left = n - 1 - k; stops = one } ≡ turnOf n l
 unfolding turnOf
 turned n k l t j b one h eb et ek ej eo = cond-false (eqb n 0) _ _ _ (ne-eqb n 0 h) (rw (eo, eb, ej, ek, et))
@@ -61,18 +61,18 @@ some-turn n l r h e =
 
 -- what is left to do after it
 pub turn-turns : (n : ℕ) (l : List Sensor) (r : Turn) → 0 < n → r ≡ turnOf n l
-    → Turns (map tickOf) (any endsNext) (count runs) n l (r .sensors) (r .left) (r .stops)
+    → Turns (map sensorTick) (any endsNext) (count runs) n l (r .sensors) (r .left) (r .stops)
 turn-turns n l r h e =
-    let k : ℕ = quietTicks (n - 1) (map tickOf l) in
+    let k : ℕ = quietTicks (n - 1) (map sensorTick l) in
     rw (some-turn n l r h e)
-    (turned-any (map tickOf) (any endsNext) lowered (count runs) AllQuiet turnable n k l _ _ h refl (quiet-most (n - 1) k _ refl) refl _ _ refl refl)
+    (turned-any (map sensorTick) (any endsNext) lowered (count runs) AllQuiet turnable n k l _ _ h refl (quiet-most (n - 1) k _ refl) refl _ _ refl refl)
 
-pub run-done : (n : ℕ) (l₀ l : List Sensor) (left stops : ℕ) → Running (map tickOf) (any endsNext) n l₀ l left stops → left ≤ 0
+pub run-done : (n : ℕ) (l₀ l : List Sensor) (left stops : ℕ) → Running (map sensorTick) (any endsNext) n l₀ l left stops → left ≤ 0
     → Passes n l₀ (record { sensors = l; stops = stops })
 run-done n l₀ l left stops r h =
-    let q : stops ≡ stopsIn (map tickOf) (any endsNext) n l₀ = run-stops (map tickOf) (any endsNext) n l₀ l left stops r h in
+    let q : stops ≡ stopsIn (map sensorTick) (any endsNext) n l₀ = run-stops (map sensorTick) (any endsNext) n l₀ l left stops r h in
     record {
-      sensors = run-state (map tickOf) (any endsNext) n l₀ l left stops r h;
+      sensors = run-state (map sensorTick) (any endsNext) n l₀ l left stops r h;
       stops = q;
-      few = omega (arith, q, stops-bound (map tickOf) (any endsNext) (count runs) stop-uses n l₀);
+      few = omega (arith, q, stops-bound (map sensorTick) (any endsNext) (count runs) stop-uses n l₀);
     }

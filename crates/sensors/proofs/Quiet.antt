@@ -13,7 +13,7 @@ use Rattle.base.proofs.Lists.{or-le}
 use Rattle.base.proofs.Jumps.{Jumps}
 use Rattle.base.proofs.Loops.{Mapped, map-again, map-skip}
 use Rattle.sensor.specs.declared.single.Sensor.{Sensor}
-use Rattle.sensor.specs.Single.{tickOf, loweredBy, powerCycleOf, endsNext, runs, quietOf}
+use Rattle.sensor.specs.Single.{sensorTick, loweredBy, powerCycleOf, endsNext, runs, quietOf}
 use Rattle.sensor.proofs.Ticks.{
   QuietFor,
   quiet-less,
@@ -36,7 +36,7 @@ abbrev pub AllQuiet : ℕ → List Sensor → Type 0
 AllQuiet k [] = Unit {0}
 AllQuiet k (s ∷ l) = QuietFor k (s .timer) × AllQuiet k l
 
-all-tick : (k : ℕ) (l : List Sensor) → AllQuiet (suc k) l → map tickOf l ≡ map (loweredBy 1) l
+all-tick : (k : ℕ) (l : List Sensor) → AllQuiet (suc k) l → map sensorTick l ≡ map (loweredBy 1) l
 all-tick k [] q = refl
 all-tick k (s ∷ l) q = λ i. tick-lowers k s (s .timer) refl (q .0) i ∷ all-tick k l (q .1) i
 
@@ -58,7 +58,7 @@ all-more k [] = refl
 all-more k (s ∷ l) = λ i. lowered-more k s i ∷ all-more k l i
 
 -- lowering by k stands for k quiet ticks of all
-pub sensors-jump : Jumps (map tickOf) (any endsNext) (λ k l. map (loweredBy k) l) AllQuiet
+pub sensors-jump : Jumps (map sensorTick) (any endsNext) (λ k l. map (loweredBy k) l) AllQuiet
 sensors-jump = record {
   none = λ l q. all-none l;
   more = λ k l q. all-more k l;
@@ -116,16 +116,16 @@ few-left m k l e = omega (arith, e, quietTicks-le m l)
 
 -- ---- the loop of a tick
 
-module _ (n : ℕ) (l m x : List Sensor) (i : ℕ) (d : Sensor) (s : Mapped tickOf n l m i) (h : i < n) where
+module _ (n : ℕ) (l m x : List Sensor) (i : ℕ) (d : Sensor) (s : Mapped sensorTick n l m i) (h : i < n) where
   -- a sensor whose timer runs is stored after its tick
-  pub one-ticks : (v : Sensor) → v ≡ tickOf (getD m i d) → x ≡ set m i v → Mapped tickOf n l x (i + 1)
-  one-ticks v e q = rw q (map-again tickOf n l m i v d s h e)
+  pub one-ticks : (v : Sensor) → v ≡ sensorTick (getD m i d) → x ≡ set m i v → Mapped sensorTick n l x (i + 1)
+  one-ticks v e q = rw q (map-again sensorTick n l m i v d s h e)
 
   -- another is left, since a tick leaves it
-  pub one-stays : (t : Bool) → t ≡ runs (getD m i d) → t ≡ false → x ≡ m → Mapped tickOf n l x (i + 1)
+  pub one-stays : (t : Bool) → t ≡ runs (getD m i d) → t ≡ false → x ≡ m → Mapped sensorTick n l x (i + 1)
   one-stays t p e q =
       let none : getD m i d .timer ≡ 0 = omega (arith, ltb-false 0 (getD m i d .timer) (sym p ∙ e)) in
-      rw q (map-skip tickOf n l m i d s h (sym (tick-none (getD m i d) none)))
+      rw q (map-skip sensorTick n l m i d s h (sym (tick-none (getD m i d) none)))
 
 -- ---- a turn of a power cycle
 
@@ -139,7 +139,7 @@ module _ (n : ℕ) (l m x : List Sensor) (i : ℕ) (d : Sensor) (s : Mapped powe
 
 -- ---- stops use up running timers
 
-pub stop-uses : (l : List Sensor) → oneIf (any endsNext l) + count runs (map tickOf l) ≤ count runs l
+pub stop-uses : (l : List Sensor) → oneIf (any endsNext l) + count runs (map sensorTick l) ≤ count runs l
 unfolding any count
 stop-uses [] = omega arith
 stop-uses (s ∷ l) = omega (arith, or-le (endsNext s) (any endsNext l), ends-runs s (s .timer) refl, stop-uses l)

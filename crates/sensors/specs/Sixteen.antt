@@ -9,7 +9,7 @@ use Rattle.base.specs.Lists.{count as countOf}
 use Rattle.base.specs.Ticks.{ticks}
 use Rattle.base.specs.Ticks.{stops as stopsIn}
 use Rattle.sensor.specs.declared.single.Sensor.{Sensor}
-use Rattle.sensor.specs.Single.{tickOf, loweredBy, runs, endsNext, quietOf}
+use Rattle.sensor.specs.Single.{sensorTick, loweredBy, runs, endsNext, quietOf}
 use Rattle.sensors.specs.declared.Passed.{Passed}
 use Rattle.sensors.specs.declared.Turn.{Turn}
 
@@ -26,8 +26,8 @@ conditionsBelow (suc n) (s ∷ l) = s .condition ∷ conditionsBelow n l
 -- What n ticks of the sensors hand back: the sensors after them and the count of their stops, "which is at most the number of timers running
 -- at its start".
 pub record Passes (n : ℕ) (l : List Sensor) (r : Passed) : Type 0 where
-  pub sensors : r .sensors ≡ ticks (map tickOf) n l
-  pub stops : r .stops ≡ stopsIn (map tickOf) (any endsNext) n l
+  pub sensors : r .sensors ≡ ticks (map sensorTick) n l
+  pub stops : r .stops ≡ stopsIn (map sensorTick) (any endsNext) n l
   pub few : r .stops ≤ countOf runs l
 
 -- ---- what the code does in between
@@ -35,8 +35,8 @@ pub record Passes (n : ℕ) (l : List Sensor) (r : Passed) : Type 0 where
 -- one tick, and the quiet ticks after it, n at most
 abbrev pub tickAndQuiet : ℕ → List Sensor → Turn
 tickAndQuiet n l = record {
-  sensors = map (loweredBy (quietTicks n (map tickOf l))) (map tickOf l);
-  left = n - quietTicks n (map tickOf l);
+  sensors = map (loweredBy (quietTicks n (map sensorTick l))) (map sensorTick l);
+  left = n - quietTicks n (map sensorTick l);
   stops = oneIf (any endsNext l);
 }
 

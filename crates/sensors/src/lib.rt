@@ -3,7 +3,7 @@ ghost use mathlib.Core.Path.{_≡_};
 ghost use mathlib.Core.List.{map};
 ghost use Rattle.base.specs.Lists.{any, oneIf};
 ghost use Rattle.base.specs.Lists.{count as countOf};
-ghost use Rattle.sensor.specs.Single.{tickOf, loweredBy, powerCycleOf, runs, endsNext};
+ghost use Rattle.sensor.specs.Single.{sensorTick, loweredBy, powerCycleOf, runs, endsNext};
 ghost use Rattle.sensors.specs.Sixteen.{quietTicks, turnOf, conditionsBelow, Passes};
 use sensor::Sensor;
 
@@ -22,7 +22,7 @@ pub struct Turn {
 
 // Each sensor after a tick, which changes those alone whose timer runs.
 pub fn tick_all(sensors: [Sensor; 16]) -> [Sensor; 16]
-    ensures { λ r. ⌜ r ≡ map tickOf sensors ⌝ }
+    ensures { λ r. ⌜ r ≡ map sensorTick sensors ⌝ }
 {
     let mut out = sensors;
     for i in 0..16 {

@@ -19,10 +19,10 @@ use Rattle.token_reader.specs.declared.Head.{Head}
 use Rattle.token_reader.specs.declared.Head.the-variants.{Is, Broken}
 use Rattle.token_reader.specs.declared.Tokens.{Tokens}
 use Rattle.token_reader.specs.Format.{startsWith, partIn, widthOf, isEnd}
-use Rattle.token_reader.specs.Read.{Outcome, elements, refusal, before, readElements, readList, readTokens, Tells, refused}
+use Rattle.token_reader.specs.Read.{TokenOutcome, elements, refusal, before, readElements, readList, readTokens, Tells, refused}
 
 -- a refusal that the code makes tells an outcome of the same number
-pub refusal-tells : (o : Outcome) (a : Answer) (t : Tokens) → t ≡ refused a → o ≡ refusal (numberOf a) → Tells o t
+pub refusal-tells : (o : TokenOutcome) (a : Answer) (t : Tokens) → t ≡ refused a → o ≡ refusal (numberOf a) → Tells o t
 refusal-tells o a t e q = record { answer = rw (e, q); expression = rw (e, q) }
 
 -- the part of the bytes from `at` to their end
@@ -35,15 +35,15 @@ part-says f bytes at r b e h =
     ap f (sym (take-all (length bytes - at) (drop at bytes) (rw (length-drop at bytes) (omega arith)))) ∙ sym e ∙ h
 
 -- the elements es, and then what an outcome has
-abbrev after : List Element → Outcome → Outcome
+abbrev after : List Element → TokenOutcome → TokenOutcome
 after es (elements fs) = elements (es ++ fs)
 after es (refusal n) = refusal n
 
-after-none : (o : Outcome) → o ≡ after [] o
+after-none : (o : TokenOutcome) → o ≡ after [] o
 after-none (elements fs) = refl
 after-none (refusal n) = refl
 
-after-one : (es : List Element) (e : Element) (o : Outcome) → after es (before e o) ≡ after (es ++ e ∷ []) o
+after-one : (es : List Element) (e : Element) (o : TokenOutcome) → after es (before e o) ≡ after (es ++ e ∷ []) o
 after-one es e (elements fs) = rw (append-assoc es (e ∷ []) fs)
 after-one es e (refusal n) = refl
 

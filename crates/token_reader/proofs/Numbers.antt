@@ -12,16 +12,16 @@ use Rattle.expression.specs.Elements.{element}
 use Rattle.token_reader.specs.declared.Head.{Head}
 use Rattle.token_reader.specs.declared.Head.the-variants.{Is, Broken}
 use Rattle.token_reader.specs.Format.{partIn, widthOf, isEnd}
-use Rattle.token_reader.specs.Read.{Outcome, elements, refusal, before, andThen, readElements, readList, readTokens, answerIn}
+use Rattle.token_reader.specs.Read.{TokenOutcome, elements, refusal, before, andThen, readElements, readList, readTokens, answerIn}
 
 abbrev pub DoneOrBroken : ℕ → Type 0
 DoneOrBroken n = (n ≡ 0) ⊎ ((n ≡ 3) ⊎ (n ≡ 4))
 
-either : (b : Bool) (x y : Outcome) → DoneOrBroken (answerIn x) → DoneOrBroken (answerIn y) → DoneOrBroken (answerIn (cond b x y))
+either : (b : Bool) (x y : TokenOutcome) → DoneOrBroken (answerIn x) → DoneOrBroken (answerIn y) → DoneOrBroken (answerIn (cond b x y))
 either true x y p q = p
 either false x y p q = q
 
-one-more : (e : Element) (o : Outcome) → DoneOrBroken (answerIn o) → DoneOrBroken (answerIn (before e o))
+one-more : (e : Element) (o : TokenOutcome) → DoneOrBroken (answerIn o) → DoneOrBroken (answerIn (before e o))
 one-more e (elements es) p = inl refl
 one-more e (refusal n) p = p
 

@@ -16,44 +16,44 @@ use Rattle.token_reader.specs.declared.Tokens.{Tokens}
 use Rattle.token_reader.specs.Format.{partIn, widthOf, isEnd}
 
 -- what is read: the elements, or the refusal's number
-pub data Outcome : Type 0 where
-  elements : List Element → Outcome
-  refusal : ℕ → Outcome
+pub data TokenOutcome : Type 0 where
+  elements : List Element → TokenOutcome
+  refusal : ℕ → TokenOutcome
 
 -- an element, and then what follows it
-abbrev pub before : Element → Outcome → Outcome
+abbrev pub before : Element → TokenOutcome → TokenOutcome
 before e (elements es) = elements (e ∷ es)
 before e (refusal n) = refusal n
 
-abbrev pub andThen : List ℕ → Head → (List ℕ → Outcome) → Outcome
+abbrev pub andThen : List ℕ → Head → (List ℕ → TokenOutcome) → TokenOutcome
 andThen bytes (Is p) follow = before (element p) (follow (drop (widthOf p) bytes))
 andThen bytes Broken follow = refusal 3
 
 -- The elements up to the end of the list, with room for so many. "not tokens: the expression bytes break the token form"; "too long:
 -- after 32 elements another F2 stands where an element may begin"; "of 3 and 4 the one met first from the left".
-unfoldable pub readElements : ℕ → List ℕ → Outcome
+unfoldable pub readElements : ℕ → List ℕ → TokenOutcome
 readElements zero bytes = cond (isEnd bytes) (elements []) (cond (eqb (getD bytes 0 0) 0xF2) (refusal 4) (refusal 3))
 readElements (suc room) bytes = cond (isEnd bytes) (elements []) (andThen bytes (partIn bytes) (λ rest. readElements room rest))
 
 -- "F0, then the elements, then F1, then no more bytes." "0 to 32 elements."
-unfoldable pub readList : List ℕ → Outcome
+unfoldable pub readList : List ℕ → TokenOutcome
 readList bytes = cond (eqb (getD bytes 0 0) 0xF0) (readElements 32 (drop 1 bytes)) (refusal 3)
 
 -- "more than 1,024 expression bytes gets 2"
-unfoldable pub readTokens : List ℕ → Outcome
+unfoldable pub readTokens : List ℕ → TokenOutcome
 readTokens bytes = cond (ltb 1024 (length bytes)) (refusal 2) (readList bytes)
 
 -- the number that an outcome has in the table of answers, and the expression that it hands back
-abbrev pub answerIn : Outcome → ℕ
+abbrev pub answerIn : TokenOutcome → ℕ
 answerIn (elements es) = 0
 answerIn (refusal n) = n
 
-abbrev pub expressionIn : Outcome → Expression
+abbrev pub expressionIn : TokenOutcome → Expression
 expressionIn (elements es) = expressionOf es
 expressionIn (refusal n) = expressionOf []
 
 -- r says what the outcome is
-pub record Tells (o : Outcome) (r : Tokens) : Type 0 where
+pub record Tells (o : TokenOutcome) (r : Tokens) : Type 0 where
   pub answer : numberOf (r .answer) ≡ answerIn o
   pub expression : r .expression ≡ expressionIn o
 

@@ -16,7 +16,7 @@ use Rattle.token_reader.specs.declared.Head.{Head}
 use Rattle.token_reader.specs.declared.Head.the-variants.{Is, Broken}
 use Rattle.token_reader.specs.declared.Tokens.{Tokens}
 use Rattle.token_reader.specs.Format.{Bytes, widthOf, partIn, isEnd}
-use Rattle.token_reader.specs.Read.{Outcome, elements, refusal, before, andThen, readElements, readList, readTokens, answerIn, expressionIn, Reads}
+use Rattle.token_reader.specs.Read.{TokenOutcome, elements, refusal, before, andThen, readElements, readList, readTokens, answerIn, expressionIn, Reads}
 use Rattle.token_reader.proofs.Fits.{read-fits}
 use Rattle.token_writer.specs.declared.Written.{Written}
 use Rattle.token_writer.specs.Write.{codesOf, bytesOf, neededFor, writeAnswer, Writes}
@@ -62,19 +62,19 @@ write-then-read es out after w r short f room p q =
 -- what is read is written back
 
 -- a refusal's number is not 0
-abbrev Told : Outcome → Type 0
+abbrev Told : TokenOutcome → Type 0
 Told (elements es) = Unit {0}
 Told (refusal n) = 0 < n
 
-either : (t : Bool) (x y : Outcome) → Told x → Told y → Told (cond t x y)
+either : (t : Bool) (x y : TokenOutcome) → Told x → Told y → Told (cond t x y)
 either true x y p q = p
 either false x y p q = q
 
-before-told : (e : Element) (o : Outcome) → Told o → Told (before e o)
+before-told : (e : Element) (o : TokenOutcome) → Told o → Told (before e o)
 before-told e (elements es) h = h
 before-told e (refusal n) h = h
 
-then-told : (bytes : List ℕ) (head : Head) (follow : List ℕ → Outcome) → ((rest : List ℕ) → Told (follow rest)) → Told (andThen bytes head follow)
+then-told : (bytes : List ℕ) (head : Head) (follow : List ℕ → TokenOutcome) → ((rest : List ℕ) → Told (follow rest)) → Told (andThen bytes head follow)
 then-told bytes (Is p) follow h = before-told _ (follow (drop (widthOf p) bytes)) (h (drop (widthOf p) bytes))
 then-told bytes Broken follow h = omega arith
 
@@ -90,7 +90,7 @@ told bytes =
     (either (eqb (getD bytes 0 0) 0xF0) _ (refusal 3) (elements-told 32 (drop 1 bytes)) (omega arith))
 
 -- an answer of 0 comes with elements
-answered : {P : Type 0} (o : Outcome) → Told o → answerIn o ≡ 0 → ((es : List Element) → o ≡ elements es → P) → P
+answered : {P : Type 0} (o : TokenOutcome) → Told o → answerIn o ≡ 0 → ((es : List Element) → o ≡ elements es → P) → P
 answered (elements es) t e f = f es refl
 answered (refusal n) t e f = absurd (omega arith)
 

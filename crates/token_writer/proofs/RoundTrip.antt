@@ -28,7 +28,7 @@ use Rattle.token_reader.specs.Format.{
   partIn,
   isEnd,
 }
-use Rattle.token_reader.specs.Read.{Outcome, elements, refusal, before, andThen, readElements, readList, readTokens}
+use Rattle.token_reader.specs.Read.{TokenOutcome, elements, refusal, before, andThen, readElements, readList, readTokens}
 use Rattle.token_reader.proofs.Listing.{width-most, few}
 use Rattle.token_reader.proofs.Fits.{by-arm, not-broken, not-refused, bytes-drop}
 use Rattle.token_writer.specs.Write.{partOf, codeOf, elementsOf, codesOf, codesFit, partBytes, bodyOf, bytesOf, neededFor}
@@ -205,7 +205,7 @@ unfolding bodyOf
 none-is bytes es t e = let f : es ≡ [] = cc in rw (f, end-is bytes t)
 
 -- an element in front of what is written
-before-is : (bytes : List ℕ) (p : Part) (o : Outcome) (es : List Element) → BeginsWith p bytes
+before-is : (bytes : List ℕ) (p : Part) (o : TokenOutcome) (es : List Element) → BeginsWith p bytes
     → ((fs : List Element) → o ≡ elements fs → bodyOf fs ≡ drop (widthOf p) bytes) → before (element p) o ≡ elements es → bodyOf es ≡ bytes
 unfolding bodyOf
 before-is bytes p (elements fs) es b rest h = let f : es ≡ element p ∷ fs = cc in rw (f, rest fs refl) (sym b)

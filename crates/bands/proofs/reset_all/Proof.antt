@@ -6,10 +6,10 @@ use Rattle.bands.proofs.reset_all.Statement.{statement}
 use Rattle.bands.proofs.reset_all.Tie as tie
 
 abbrev Inv-loop : tie.InvT-loop
-Inv-loop kind out₀ i₀ out i = Mapped (resetRow kind) 16 out₀ out i
+Inv-loop type out₀ i₀ out i = Mapped (resetRow type) 16 out₀ out i
 
 abbrev μ-loop : tie.MeasureT-loop
-μ-loop kind out₀ i₀ out i = 16 - i
+μ-loop type out₀ i₀ out i = 16 - i
 
 loop-holds : tie.Need-loop-holds Inv-loop μ-loop
 loop-holds c = search (map-begin, needs)

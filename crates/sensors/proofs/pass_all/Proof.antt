@@ -3,13 +3,13 @@ use mathlib.Core.List.{map}
 use Rattle.base.specs.Lists.{any, count}
 use Rattle.base.specs.Ticks.{turnsLeft, Turns}
 use Rattle.base.proofs.Turns.{Running, run-begin, run-again}
-use Rattle.sensor.specs.Single.{tickOf, endsNext, runs}
+use Rattle.sensor.specs.Single.{sensorTick, endsNext, runs}
 use Rattle.sensors.proofs.Passing.{turn-turns, run-done}
 use Rattle.sensors.proofs.pass_all.Statement.{statement}
 use Rattle.sensors.proofs.pass_all.Tie as tie
 
 abbrev Inv-loop : tie.InvT-loop
-Inv-loop n next₀ left₀ stops₀ next left stops = Running (map tickOf) (any endsNext) n next₀ next left stops
+Inv-loop n next₀ left₀ stops₀ next left stops = Running (map sensorTick) (any endsNext) n next₀ next left stops
 
 abbrev μ-loop : tie.MeasureT-loop
 μ-loop n next₀ left₀ stops₀ next left stops = turnsLeft (any endsNext) (count runs) left next
@@ -24,7 +24,7 @@ turn-once-requires c κs = search needs
 turn : (c : tie.After-struct-known Inv-loop μ-loop) →
     let t = c .before .before .turn-once .result in
     let l = c .before .before .before .before .loop in
-    Turns (map tickOf) (any endsNext) (count runs) (l .left) (l .next) (t .sensors) (t .left) (t .stops)
+    Turns (map sensorTick) (any endsNext) (count runs) (l .left) (l .next) (t .sensors) (t .left) (t .stops)
 turn c = turn-turns _ _ _ (search needs) (c .before .before .turn-once .ensures)
 
 add-stops : tie.Need-add-stops Inv-loop μ-loop

@@ -1,5 +1,5 @@
 use borrow.Author.Needs.{needs}
-use Rattle.sensor.specs.Single.{tickOf}
+use Rattle.sensor.specs.Single.{sensorTick}
 use Prim.Native.Nat.{_-_}
 use Rattle.base.proofs.Loops.{Mapped, map-begin, map-done}
 use Rattle.sensors.proofs.Quiet.{one-ticks, one-stays}
@@ -8,7 +8,7 @@ use Rattle.sensors.proofs.tick_all.Statement.{statement}
 use Rattle.sensors.proofs.tick_all.Tie as tie
 
 abbrev Inv-loop : tie.InvT-loop
-Inv-loop out₀ i₀ out i = Mapped tickOf 16 out₀ out i
+Inv-loop out₀ i₀ out i = Mapped sensorTick 16 out₀ out i
 
 abbrev μ-loop : tie.MeasureT-loop
 μ-loop out₀ i₀ out i = 16 - i

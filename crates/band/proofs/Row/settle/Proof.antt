@@ -1,10 +1,10 @@
-use Rattle.band.proofs.Settling.{settled, not-open}
+use Rattle.band.proofs.Settling.{settled, not-lockable}
 use borrow.Author.Needs.{needs}
 use Rattle.band.proofs.Row.settle.Statement.{statement}
 use Rattle.band.proofs.Row.settle.Tie as tie
 
-open-requires : tie.Need-open-requires
-open-requires c κs = search needs
+lockable-requires : tie.Need-lockable-requires
+lockable-requires c κs = search needs
 
 value-requires : tie.Need-value-requires
 value-requires c κs = search needs
@@ -16,8 +16,8 @@ returns : tie.Need-returns
 returns c = search settled
 
 returns-2 : tie.Need-returns-2
-returns-2 c = search not-open
+returns-2 c = search not-lockable
 
 pub settle-spec : {M : Type 1} → statement M
 settle-spec =
-    tie.close (tie.spec open-requires value-requires lock-under-requires returns returns-2)
+    tie.close (tie.spec lockable-requires value-requires lock-under-requires returns returns-2)

@@ -24,8 +24,8 @@ mul-row c = search needs
 element-copy-out-row : tie.Need-element-copy-out-row Inv-loop μ-loop
 element-copy-out-row c = search needs
 
-open-requires : tie.Need-open-requires Inv-loop μ-loop
-open-requires c κs = search needs
+lockable-requires : tie.Need-lockable-requires Inv-loop μ-loop
+lockable-requires c κs = search needs
 
 settle-requires : tie.Need-settle-requires Inv-loop μ-loop
 settle-requires c κs = search needs
@@ -58,7 +58,7 @@ settle-spec =
     loop-holds
     mul-row
     element-copy-out-row
-    open-requires
+    lockable-requires
     settle-requires
     mul-settled
     element-set-from-settled

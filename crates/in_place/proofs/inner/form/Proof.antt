@@ -15,8 +15,8 @@ settle-requires c κs = search needs
 number-requires : tie.Need-number-requires
 number-requires c κs = search needs
 
-open-requires : tie.Need-open-requires
-open-requires c κs = search needs
+lockable-requires : tie.Need-lockable-requires
+lockable-requires c κs = search needs
 
 returns : tie.Need-returns
 returns c = search forms
@@ -29,5 +29,5 @@ form-spec =
     set-requires
     settle-requires
     number-requires
-    open-requires
+    lockable-requires
     returns)

@@ -182,8 +182,8 @@ mul-row c = search needs
 element-copy-out-row : tie.Need-element-copy-out-row Inv-loop2 μ-loop2 Inv-loop μ-loop
 element-copy-out-row c = search needs
 
-open-requires : tie.Need-open-requires Inv-loop2 μ-loop2 Inv-loop μ-loop
-open-requires c κs = search needs
+lockable-requires : tie.Need-lockable-requires Inv-loop2 μ-loop2 Inv-loop μ-loop
+lockable-requires c κs = search needs
 
 locks-requires : tie.Need-locks-requires Inv-loop2 μ-loop2 Inv-loop μ-loop
 locks-requires c κs = search needs
@@ -208,7 +208,7 @@ loop2-again c =
     let g = c .before .before .before .before .loop2 .inv in
     ⊎-elim (λ w. close-as (close-lock _ _ _ _ _ _ _ g _ _ (w .1 .ensures) (w .2 .taken) (w .3 .ensures)) (w .4) (w .5))
     (⊎-elim (λ w. close-as (close-stay _ _ _ _ _ _ _ g _ (w .1 .ensures) (w .2 .left)) (w .3) (w .4))
-    (λ w. close-as (close-pass _ _ _ _ _ _ _ g _ (c .before .«open» .ensures) (w .0 .left)) (w .1) (w .2)))
+    (λ w. close-as (close-pass _ _ _ _ _ _ _ g _ (c .before .lockable .ensures) (w .0 .left)) (w .1) (w .2)))
     (c .if7 .came)
 
 slice-write-answers : tie.Need-slice-write-answers Inv-loop2 μ-loop2 Inv-loop μ-loop
@@ -312,7 +312,7 @@ run-events-spec =
     loop2-holds
     mul-row
     element-copy-out-row
-    open-requires
+    lockable-requires
     locks-requires
     lock-requires
     mul-new-4

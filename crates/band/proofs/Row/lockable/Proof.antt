@@ -1,6 +1,6 @@
 use borrow.Author.Needs.{needs}
-use Rattle.band.proofs.Row.open.Statement.{statement}
-use Rattle.band.proofs.Row.open.Tie as tie
+use Rattle.band.proofs.Row.lockable.Statement.{statement}
+use Rattle.band.proofs.Row.lockable.Tie as tie
 
 negated-requires : tie.Need-negated-requires
 negated-requires c κs = search needs
@@ -20,7 +20,7 @@ or-requires c κs = search needs
 returns : tie.Need-returns
 returns c = simp (c .or .ensures, c .before .and2 .ensures, c .before .before .negated2 .ensures, c .before .before .before .and .ensures, c .before .before .before .before .negated .ensures)
 
-pub open-spec : {M : Type 1} → statement M
-open-spec =
+pub lockable-spec : {M : Type 1} → statement M
+lockable-spec =
     tie.close
     (tie.spec negated-requires and-requires negated-requires-2 and-requires-2 or-requires returns)

@@ -42,7 +42,7 @@ EqualHeaders capacity bands sensors capacity' bands' sensors' = (capacity ≡ ca
 
 -- Condition 3 of this run: against every script t that reads to its end with an equal header, and the history rule, for every band that the
 -- header counts
-pub record Holds (s : List ℕ) (most : ℕ) (r : Ran) (answers : List ℕ) : Type 0 where
+pub record Condition3OfRun (s : List ℕ) (most : ℕ) (r : Ran) (answers : List ℕ) : Type 0 where
   pub isolation : (t : List ℕ) (capacity bands sensors : ℕ) (es : List Event) (capacity' bands' sensors' : ℕ) (fs : List Event)
       → RanWhole s most r capacity bands sensors es → readScript t ≡ accepted capacity' bands' sensors' fs
       → EqualHeaders capacity bands sensors capacity' bands' sensors'
@@ -63,7 +63,7 @@ pub record LikeBands (band : ℕ) (r : RanTwo) (es fs : List Event) (answers ans
   pub own : ownAnswers band es answers ≡ ownAnswers band fs answers2
 
 -- Condition 3 of two runs, on the two results and the two sets of answers themselves
-pub record HoldsOfTwo (s t : List ℕ) (r : RanTwo) (answers answers2 : List ℕ) : Type 0 where
+pub record Condition3OfTwo (s t : List ℕ) (r : RanTwo) (answers answers2 : List ℕ) : Type 0 where
   pub isolation : (capacity bands sensors : ℕ) (es : List Event) (capacity' bands' sensors' : ℕ) (fs : List Event)
       → RunWhole s (r .first) capacity bands sensors es → RunWhole t (r .second) capacity' bands' sensors' fs
       → EqualHeaders capacity bands sensors capacity' bands' sensors'

@@ -1,8 +1,8 @@
-use Rattle.script.specs.Fields.{fiveAt}
+use Rattle.script.specs.Fields.{firstColumnsAt}
 use Rattle.script.proofs.Chains.{fields}
 use borrow.Author.Needs.{needs}
-use Rattle.script.proofs.five_at.Statement.{statement}
-use Rattle.script.proofs.five_at.Tie as tie
+use Rattle.script.proofs.first_columns_at.Statement.{statement}
+use Rattle.script.proofs.first_columns_at.Tie as tie
 
 column-at-requires : tie.Need-column-at-requires
 column-at-requires c κs = search needs
@@ -14,7 +14,7 @@ enum-told : tie.Need-enum-told
 enum-told c = search needs
 
 returns : tie.Need-returns
-unfolding fiveAt
+unfolding firstColumnsAt
 returns c = λ follow. search fields depth 9 fits 4000
 
 column-at-requires-2 : tie.Need-column-at-requires-2
@@ -27,7 +27,7 @@ enum-told-2 : tie.Need-enum-told-2
 enum-told-2 c = search needs
 
 returns-2 : tie.Need-returns-2
-unfolding fiveAt
+unfolding firstColumnsAt
 returns-2 c = λ follow. search fields depth 9 fits 4000
 
 column-at-requires-3 : tie.Need-column-at-requires-3
@@ -40,7 +40,7 @@ enum-told-3 : tie.Need-enum-told-3
 enum-told-3 c = search needs
 
 returns-3 : tie.Need-returns-3
-unfolding fiveAt
+unfolding firstColumnsAt
 returns-3 c = λ follow. search fields depth 9 fits 4000
 
 column-at-requires-4 : tie.Need-column-at-requires-4
@@ -53,7 +53,7 @@ enum-told-4 : tie.Need-enum-told-4
 enum-told-4 c = search needs
 
 returns-4 : tie.Need-returns-4
-unfolding fiveAt
+unfolding firstColumnsAt
 returns-4 c = λ follow. search fields depth 9 fits 4000
 
 column-at-requires-5 : tie.Need-column-at-requires-5
@@ -66,15 +66,15 @@ enum-told-5 : tie.Need-enum-told-5
 enum-told-5 c = search needs
 
 returns-5 : tie.Need-returns-5
-unfolding fiveAt
+unfolding firstColumnsAt
 returns-5 c = λ follow. search fields depth 9 fits 4000
 
 returns-6 : tie.Need-returns-6
-unfolding fiveAt
+unfolding firstColumnsAt
 returns-6 c = λ follow. search fields depth 9 fits 4000
 
-pub five-at-spec : {M : Type 1} → statement M
-five-at-spec =
+pub first-columns-at-spec : {M : Type 1} → statement M
+first-columns-at-spec =
     tie.close
     (tie.spec
     column-at-requires
