@@ -7,7 +7,8 @@ use Rattle.base.proofs.Cases.{cond-true, neither}
 use Rattle.band.specs.declared.Side.{Side}
 use Rattle.band.specs.declared.Side.the-variants.{Read, Write}
 use Rattle.band.specs.declared.Row.{Row}
-use Rattle.band.specs.Rows.{freshRow, closedOn, lockableOn, isLockable, valueIn, withLocked, lockUnder, settleRow, inSet, resetRow, locksBy}
+use Rattle.band.specs.Rows.{freshRow, closedOn, valueIn, withLocked, lockUnder, settleRow, inSet, resetRow}
+use Rattle.band.specs.Parts.{lockableOn, isLockable, locksBy}
 
 -- ---- what the code's arms come to
 

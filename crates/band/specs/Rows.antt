@@ -33,14 +33,6 @@ lockedOn Write row = row .«write_locked»
 abbrev pub closedOn : Side → Row → Bool
 closedOn side row = enabledOn side row && lockedOn side row
 
--- enabled and not locked yet
-abbrev pub lockableOn : Side → Row → Bool
-lockableOn side row = enabledOn side row && not (lockedOn side row)
-
--- some side is enabled and not locked yet
-abbrev pub isLockable : Row → Bool
-isLockable row = lockableOn Read row || lockableOn Write row
-
 -- the value of the row's expression under the sensors' conditions
 abbrev pub valueIn : List Bool → Row → Bool
 valueIn conditions row = valueOf conditions (elementsIn (row .expression))
@@ -77,7 +69,3 @@ inSet set (suc (suc (suc type))) = false
 -- "A band whose set has the type gets each enabled side locked."
 unfoldable pub resetRow : ℕ → Row → Row
 resetRow type row = cond (inSet (row .«lock_on_reset») type) (lockUnder true row) row
-
--- a reset of a type and then settling lock what is enabled: where the set has the type, or under a TRUE expression
-abbrev pub locksBy : List Bool → ℕ → Row → Bool
-locksBy conditions type row = inSet (row .«lock_on_reset») type || valueIn conditions row

@@ -4,18 +4,8 @@ ghost use mathlib.Core.Bool.{true, cond, _&&_, _||_, not};
 ghost use Prim.Native.Nat.{_<_};
 ghost use lib.Dec.{eqb};
 ghost use Rattle.base.specs.Columns.{named, within};
-ghost use Rattle.band.specs.Rows.{
-  freshRow,
-  closedOn,
-  isLockable,
-  valueIn,
-  withLocked,
-  lockUnder,
-  settleRow,
-  inSet,
-  resetRow,
-  locksBy,
-};
+ghost use Rattle.band.specs.Rows.{freshRow, closedOn, valueIn, withLocked, lockUnder, settleRow, inSet, resetRow};
+ghost use Rattle.band.specs.Parts.{isLockable, locksBy};
 ghost use Rattle.band.specs.Sets.{columnsFit, formedRow, heldBy};
 use expression::Expression;
 

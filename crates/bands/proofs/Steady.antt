@@ -6,7 +6,8 @@ use Prim.Native.Nat.{ℕ}
 use Rattle.base.specs.Lists.{any}
 use Rattle.base.proofs.Cases.{neither}
 use Rattle.band.specs.declared.Row.{Row}
-use Rattle.band.specs.Rows.{isLockable, settleRow, resetRow}
+use Rattle.band.specs.Rows.{settleRow, resetRow}
+use Rattle.band.specs.Parts.{isLockable}
 use Rattle.band.proofs.Settling.{not-lockable, steady-reset}
 
 -- a change that leaves each row with no lockable side as it is

@@ -7,7 +7,8 @@ use native.Mathlib.Omega.{arith}
 use lib.Dec.{ltb}
 use borrow.Author.Tests.{lt-ltb}
 use Rattle.base.specs.Lists.{oneIf}
-use Rattle.base.specs.Ticks.{ticks, turnsLeft, Turns}
+use Rattle.base.specs.Ticks.{ticks}
+use Rattle.base.specs.Parts.{turnsLeft, Turns}
 use Rattle.base.specs.Ticks.{stops as stopsIn}
 use Rattle.base.proofs.Lists.{oneIf-le}
 use Rattle.base.proofs.Jumps.{Jumps, turn-ticks, turn-stops}

@@ -4,3 +4,4 @@ pub mod Columns
 pub mod Rows
 pub mod Spliced
 pub mod Refusals
+pub mod Parts

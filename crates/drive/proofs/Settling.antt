@@ -8,7 +8,8 @@ use mathlib.Core.List.{List, [], _∷_, map}
 use Rattle.sensor.specs.declared.single.Sensor.{Sensor}
 use Rattle.sensors.specs.Sixteen.{conditionsBelow}
 use Rattle.band.specs.declared.Row.{Row}
-use Rattle.band.specs.Rows.{isLockable, settleRow}
+use Rattle.band.specs.Rows.{settleRow}
+use Rattle.band.specs.Parts.{isLockable}
 use Rattle.band.proofs.Settling.{not-lockable, settle-again}
 use Rattle.drive.specs.declared.Drive.{Drive}
 use Rattle.drive.specs.State.{withRows, withSensors, conditionsOf, settleOf, tickOf, fallOf}

@@ -7,13 +7,14 @@ use Rattle.base.specs.Lists.{oneIf}
 use Rattle.base.specs.Ticks.{stops}
 use Rattle.base.proofs.Jumps.{Jumps, stops-bound}
 use Rattle.sensor.specs.declared.single.Sensor.{Sensor}
-use Rattle.sensor.specs.Single.{loweredBy}
+use Rattle.sensor.specs.Parts.{loweredBy}
 use Rattle.sensor.specs.Single.{sensorTick}
 use Rattle.sensors.proofs.Quiet.{AllQuiet, sensors-jump, lowered-conditions, stop-uses}
 use Rattle.drive.specs.declared.Drive.{Drive}
 use Rattle.drive.specs.State.{withSensors, settleOf, tickOf, stopNext}
 use Rattle.drive.proofs.Settling.{settle-with}
-use Rattle.elapse.specs.Jumps.{jumpOf, running}
+use Rattle.elapse.specs.Jumps.{running}
+use Rattle.elapse.specs.Parts.{jumpOf}
 
 -- the bands are settled, and no timer ends within k ticks
 pub record Calm (k : ℕ) (d : Drive) : Type 0 where

@@ -3,20 +3,21 @@ use mathlib.Core.Path.{_≡_, refl, sym, ap, _∙_}
 use mathlib.Core.List.{map}
 use Prim.Native.Nat.{ℕ, _-_, _<_, _≤_}
 use native.Mathlib.Omega.{arith}
-use Rattle.base.specs.Ticks.{Turns}
+use Rattle.base.specs.Parts.{Turns}
 use Rattle.base.specs.Ticks.{stops as stopsIn}
 use Rattle.base.proofs.Turns.{Turnable, QuietMost, Running, run-state, run-stops}
 use Rattle.base.proofs.Turns.{turned as turned-any}
-use Rattle.sensor.specs.Single.{loweredBy}
+use Rattle.sensor.specs.Parts.{loweredBy}
 use Rattle.sensor.specs.Single.{sensorTick}
 use Rattle.sensors.specs.declared.Turn.{Turn}
-use Rattle.sensors.specs.Sixteen.{quietTicks, tickAndQuiet, turnOf}
+use Rattle.sensors.specs.Parts.{quietTicks, tickAndQuiet, turnOf}
 use Rattle.sensors.proofs.Quiet.{lowered-conditions, lowered-running}
 use Rattle.sensors.proofs.Passing.{quiet-most, some-turn}
 use Rattle.drive.specs.declared.Drive.{Drive}
 use Rattle.drive.specs.State.{withSensors, settleOf, fallOf, tickOf, stopNext}
 use Rattle.drive.proofs.Settling.{settle-with, tick-settled}
-use Rattle.elapse.specs.Jumps.{running, jumpOf, Elapses}
+use Rattle.elapse.specs.Jumps.{running, Elapses}
+use Rattle.elapse.specs.Parts.{jumpOf}
 use Rattle.elapse.proofs.Calm.{Calm, drive-jumps, stop-falls, stops-few}
 
 jump-running : (k : ℕ) (d : Drive) → running (jumpOf k d) ≤ running d

@@ -1,13 +1,12 @@
 -- Document 01, 'Sensors': "An elapse of n is n ticks, bands settled after each. Its stops are the ticks at which some timer ends".
 use Prim.Native.Nat.{ℕ, _≤_}
 use mathlib.Core.Path.{_≡_}
-use mathlib.Core.List.{map}
 use Rattle.base.specs.Lists.{count}
 use Rattle.base.specs.Ticks.{ticks}
 use Rattle.base.specs.Ticks.{stops as stopsIn}
-use Rattle.sensor.specs.Single.{runs, loweredBy}
+use Rattle.sensor.specs.Single.{runs}
 use Rattle.drive.specs.declared.Drive.{Drive}
-use Rattle.drive.specs.State.{withSensors, tickOf, stopNext}
+use Rattle.drive.specs.State.{tickOf, stopNext}
 use Rattle.elapse.specs.declared.Elapsed.{Elapsed}
 
 -- the timers that run
@@ -20,9 +19,3 @@ pub record Elapses (n : ℕ) (d : Drive) (r : Elapsed) : Type 0 where
   pub drive : r .drive ≡ ticks tickOf n d
   pub stops : r .stops ≡ stopsIn tickOf stopNext n d
   pub few : r .stops ≤ running d
-
--- ---- what the code does in between
-
--- k ticks at once, at which no timer ends and nothing settles
-unfoldable pub jumpOf : ℕ → Drive → Drive
-jumpOf k d = withSensors (map (loweredBy k) (d .sensors)) d

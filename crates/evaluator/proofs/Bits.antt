@@ -13,7 +13,7 @@ use Rattle.base.proofs.Lists.{oneIf-le}
 use Rattle.expression.specs.declared.Part.{Part}
 use Rattle.expression.specs.declared.Part.the-variants.{Reference, Operator}
 use Rattle.evaluator.specs.Value.{conditionAt, onTwo, onOne, operatorOf, putElement, onStack, endOf, orFalse}
-use Rattle.evaluator.specs.Stack.{bitsOf, heldAs, Does}
+use Rattle.evaluator.specs.Parts.{bitsOf, heldAs, Does}
 
 pub absent : (cs : List Bool) (row : ℕ) → length cs ≡ 16 → 16 ≤ row → false ≡ conditionAt cs row
 absent cs row e h = sym (List·getD-eq-default cs false (omega arith))

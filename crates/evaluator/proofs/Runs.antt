@@ -13,7 +13,7 @@ use lib.Pow.{pow-mono}
 use lib.Seq.{drop-cons, getD-take}
 use Rattle.expression.specs.declared.Element.{Element}
 use Rattle.evaluator.specs.Value.{putElement, onStack, evaluate, resultOf, orFalse, valueOf}
-use Rattle.evaluator.specs.Stack.{heldAs, Does}
+use Rattle.evaluator.specs.Parts.{heldAs, Does}
 use Rattle.evaluator.proofs.Bits.{ended, one-more}
 
 pub record Ran (es : List Element) (cs : List Bool) (count i n : ℕ) : Type 0 where

@@ -8,7 +8,7 @@ ghost use lib.ListN.{take};
 ghost use Rattle.evaluator.specs.Value.{conditionAt, onTwo, onOne, operatorOf, putElement, valueOf};
 ghost use mathlib.Core.List.{_∷_};
 ghost use mathlib.Core.Option.{some};
-ghost use Rattle.evaluator.specs.Stack.{Does};
+ghost use Rattle.evaluator.specs.Parts.{Does};
 ghost use Rattle.expression.specs.Elements.{elementsIn};
 use expression::Element;
 use expression::Expression;

@@ -8,7 +8,7 @@ use lib.ListN.{length, getD}
 use Rattle.base.proofs.Cases.{cond-true, cond-false, and-yes, neither}
 use Rattle.geometry.specs.declared.Span.{Span}
 use Rattle.geometry.specs.Blocks.{covers, bandFrom, bandOf, overlapping, bandSpans, spanOf, closedAt, touchesOf}
-use Rattle.geometry.specs.Runs.{Barred}
+use Rattle.geometry.specs.Parts.{Barred}
 use Rattle.geometry.proofs.Ranges.{any-at, any-none, refuted}
 use Rattle.base.proofs.Rows.{getD-any}
 use Rattle.geometry.proofs.Sharing.{no-block, pair-at, at-band, below, of-band}

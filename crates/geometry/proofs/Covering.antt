@@ -8,7 +8,7 @@ use lib.Dec.{ltb, leb}
 use Rattle.base.proofs.Cases.{and-yes, and-no}
 use Rattle.geometry.specs.declared.Span.{Span}
 use Rattle.geometry.specs.Blocks.{covers, meetsOf}
-use Rattle.geometry.specs.Runs.{Alike}
+use Rattle.geometry.specs.Parts.{Alike}
 use Rattle.geometry.proofs.Ranges.{any-at, any-none, both}
 
 module _ (s : Span) where

@@ -13,7 +13,7 @@ use lib.Seq.{drop-cons, getD-take}
 use Rattle.base.proofs.Cases.{cond-true, cond-false, or-yes, or-no, and-no}
 use Rattle.geometry.specs.declared.Span.{Span}
 use Rattle.geometry.specs.Blocks.{covers, meetsOf, bandFrom, bandOf}
-use Rattle.geometry.specs.Runs.{Alike, OneBand, barsAt, Barred}
+use Rattle.geometry.specs.Parts.{Alike, OneBand, barsAt, Barred}
 
 -- the i-th of the first n spans, and what follows it
 pub tail-at : (l : List Span) (n i : ℕ) (z : Span) → length l ≡ 16 → i < 16 → i < n

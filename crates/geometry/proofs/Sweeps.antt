@@ -8,7 +8,7 @@ use lib.ListN.{length, getD}
 use Rattle.geometry.specs.declared.Span.{Span}
 use Rattle.geometry.specs.declared.Run.{Run}
 use Rattle.geometry.specs.Blocks.{anyBlock, closedAt, touchesOf}
-use Rattle.geometry.specs.Runs.{OneBand}
+use Rattle.geometry.specs.Parts.{OneBand}
 use Rattle.geometry.proofs.Ranges.{any-at, any-skip}
 use Rattle.base.proofs.Rows.{getD-any}
 

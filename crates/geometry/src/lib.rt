@@ -7,7 +7,7 @@ ghost use lib.ListN.{take, drop};
 ghost use Rattle.answer.specs.Numbers.{numberOf};
 ghost use Rattle.geometry.specs.Blocks.{covers, meetsOf, meetsAny, overlapping, bandSpans, touchesOf};
 ghost use Rattle.geometry.specs.Events.{noSpan, pastEnd, transferAnswer, Places};
-ghost use Rattle.geometry.specs.Runs.{Alike, OneBand, Barred};
+ghost use Rattle.geometry.specs.Parts.{Alike, OneBand, Barred};
 use answer::Answer;
 
 // The blocks of a band: `length` of them from `start` on.

@@ -11,7 +11,8 @@ use Rattle.base.proofs.Cases.{neither}
 use Rattle.base.proofs.Lists.{mapTo, mapTo-next, mapTo-all, set-same}
 use Rattle.sensors.specs.Sixteen.{conditionsBelow}
 use Rattle.band.specs.declared.Row.{Row}
-use Rattle.band.specs.Rows.{isLockable, withLocked, lockUnder, settleRow, resetRow, locksBy}
+use Rattle.band.specs.Rows.{withLocked, lockUnder, settleRow, resetRow}
+use Rattle.band.specs.Parts.{isLockable, locksBy}
 use Rattle.band.proofs.Settling.{not-lockable, steady-reset, reset-settle}
 use Rattle.drive.specs.declared.Drive.{Drive}
 use Rattle.drive.specs.State.{withRows, conditionsOf, settleOf}

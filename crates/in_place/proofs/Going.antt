@@ -12,7 +12,8 @@ use mir.Syntax.{w64}
 use Rattle.base.specs.Lists.{any}
 use Rattle.base.specs.Rows.{isRow}
 use Rattle.sensor.specs.Single.{runs}
-use Rattle.band.specs.Rows.{isLockable, resetRow}
+use Rattle.band.specs.Rows.{resetRow}
+use Rattle.band.specs.Parts.{isLockable}
 use Rattle.drive.specs.declared.Drive.{Drive}
 use Rattle.drive.specs.declared.Kind.{Kind}
 use Rattle.drive.specs.State.{settleOf}

@@ -10,7 +10,8 @@ use Rattle.base.specs.Rows.{modify}
 use Rattle.base.proofs.Jumps.{ticks-keep}
 use Rattle.sensor.specs.Single.{powerCycleOf}
 use Rattle.band.specs.declared.Row.{Row}
-use Rattle.band.specs.Rows.{freshRow, isLockable}
+use Rattle.band.specs.Rows.{freshRow}
+use Rattle.band.specs.Parts.{isLockable}
 use Rattle.bands.proofs.Steady.{settle-steady}
 use Rattle.drive.specs.declared.Drive.{Drive}
 use Rattle.drive.specs.declared.Fresh.{Fresh}

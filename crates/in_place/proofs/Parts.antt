@@ -14,13 +14,16 @@ use Rattle.answer.specs.declared.Answer.{Answer}
 use Rattle.answer.specs.Numbers.{numberOf}
 use Rattle.sensor.specs.declared.single.Sensor.{Sensor}
 use Rattle.sensor.specs.declared.single.SensorAnswer.{SensorAnswer}
-use Rattle.sensor.specs.Single.{sensorTick, loweredBy, runs, endsNext, Answers}
+use Rattle.sensor.specs.Single.{sensorTick, runs, endsNext, Answers}
+use Rattle.sensor.specs.Parts.{loweredBy}
 use Rattle.sensors.specs.declared.Passed.{Passed}
-use Rattle.sensors.specs.Sixteen.{quietTicks, Passes}
+use Rattle.sensors.specs.Sixteen.{Passes}
+use Rattle.sensors.specs.Parts.{quietTicks}
 use Rattle.sensors.proofs.Quiet.{AllQuiet, quietTicks-quiet, sensors-jump}
 use Rattle.band.specs.declared.Row.{Row}
 use Rattle.band.specs.declared.BandColumns.{BandColumns}
-use Rattle.band.specs.Rows.{isLockable, settleRow}
+use Rattle.band.specs.Rows.{settleRow}
+use Rattle.band.specs.Parts.{isLockable}
 use Rattle.row_set.specs.declared.RowAnswer.{RowAnswer}
 use Rattle.row_set.specs.Forming.{SetsRow}
 use Rattle.in_place.specs.declared.inner.Moved.{Moved}

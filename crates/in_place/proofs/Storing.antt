@@ -22,16 +22,19 @@ use Rattle.answer.specs.Numbers.{numberOf}
 use Rattle.sensor.specs.declared.single.Sensor.{Sensor}
 use Rattle.sensor.specs.declared.columns.SensorColumns.{SensorColumns}
 use Rattle.sensor.specs.Level.{greatestReading}
-use Rattle.sensor.specs.Single.{readingAnswer, readingOf, judgeOf, turnedTo, powerCycleOf, loweredBy, endsNext}
+use Rattle.sensor.specs.Single.{readingAnswer, readingOf, judgeOf, turnedTo, powerCycleOf, endsNext}
+use Rattle.sensor.specs.Parts.{loweredBy}
 use Rattle.sensor.specs.Single.{sensorTick}
 use Rattle.sensor.specs.Columns.{setAnswer, setOf, storedOf, switchedOf}
 use Rattle.sensor.specs.Columns.{columnsFit as sensorColumnsFit}
-use Rattle.sensors.specs.Sixteen.{quietTicks, conditionsBelow}
+use Rattle.sensors.specs.Sixteen.{conditionsBelow}
+use Rattle.sensors.specs.Parts.{quietTicks}
 use Rattle.sensors.proofs.Quiet.{AllQuiet, quietTicks-le, quietTicks-quiet, sensors-jump}
 use Rattle.band.specs.declared.Side.{Side}
 use Rattle.band.specs.declared.Row.{Row}
 use Rattle.band.specs.declared.BandColumns.{BandColumns}
-use Rattle.band.specs.Rows.{freshRow, isLockable, closedOn, settleRow, inSet, resetRow}
+use Rattle.band.specs.Rows.{freshRow, closedOn, settleRow, inSet, resetRow}
+use Rattle.band.specs.Parts.{isLockable}
 use Rattle.band.proofs.Settling.{no-type}
 use Rattle.bands.proofs.Steady.{settle-steady, reset-steady}
 use Rattle.geometry.specs.declared.Span.{Span}
@@ -44,7 +47,8 @@ use Rattle.drive.specs.Events.{Event, reading, elapse, reset, sensorSet, bandSe
 use Rattle.drive.specs.Events.{answerOf, actOf, stepOf, elapsedStops, stopsOf, sideOf, formedFrom, Replies}
 use Rattle.drive.proofs.Settling.{settle-with, tick-settled}
 use Rattle.elapse.specs.declared.Elapsed.{Elapsed}
-use Rattle.elapse.specs.Jumps.{jumpOf, Elapses}
+use Rattle.elapse.specs.Jumps.{Elapses}
+use Rattle.elapse.specs.Parts.{jumpOf}
 use Rattle.elapse.proofs.Calm.{Calm, drive-jumps}
 use Rattle.row_set.specs.declared.RowAnswer.{RowAnswer}
 use Rattle.row_set.specs.Forming.{rowAnswer, SetsRow}

@@ -9,10 +9,11 @@ use Rattle.base.specs.Ticks.{ticks, stops}
 use Rattle.answer.specs.Numbers.{numberOf}
 use Rattle.sensor.specs.declared.single.Sensor.{Sensor}
 use Rattle.sensor.specs.Single.{sensorTick, endsNext}
-use Rattle.sensors.specs.Sixteen.{quietTicks}
+use Rattle.sensors.specs.Parts.{quietTicks}
 use Rattle.band.specs.declared.Row.{Row}
 use Rattle.band.specs.declared.BandColumns.{BandColumns}
-use Rattle.band.specs.Rows.{isLockable, settleRow}
+use Rattle.band.specs.Rows.{settleRow}
+use Rattle.band.specs.Parts.{isLockable}
 use Rattle.row_set.specs.declared.RowAnswer.{RowAnswer}
 use Rattle.row_set.specs.Forming.{SetsRow}
 use Rattle.in_place.specs.declared.inner.Moved.{Moved}

@@ -6,7 +6,8 @@ use mathlib.Core.List.{List, [], _∷_}
 use mathlib.Core.Bool.{Bool, true, false, cond}
 use lib.Dec.{ltb, eqb}
 use borrow.Author.Tests.{ltb-true, eqb-false}
-use Rattle.numbers.specs.Groups.{Found, found, none, groupsFrom, prefixed, numberFrom}
+use Rattle.numbers.specs.Groups.{Found, found, none, prefixed, numberFrom}
+use Rattle.numbers.specs.Parts.{groupsFrom}
 
 -- 128 to the power of k + 1
 unfoldable pub top : ℕ → ℕ

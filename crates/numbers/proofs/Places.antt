@@ -11,7 +11,8 @@ use lib.Seq.{drop-cons}
 use borrow.Author.Tests.{lt-ltb, le-ltb, eq-eqb, ne-eqb}
 use Rattle.numbers.specs.declared.Number.{Number}
 use Rattle.numbers.specs.declared.Number.the-variants.{Is, Bad}
-use Rattle.numbers.specs.Groups.{found, none, foundIn, prefixed, groupsFrom, numberFrom}
+use Rattle.numbers.specs.Groups.{found, none, foundIn, prefixed, numberFrom}
+use Rattle.numbers.specs.Parts.{groupsFrom}
 
 pub none-left : (left at : ℕ) (s : List ℕ) → left ≡ 0 → none ≡ groupsFrom left at s
 unfolding groupsFrom

@@ -32,12 +32,6 @@ numberFrom at (b ∷ bytes) = cond (ltb b 128) (found b (at + 1)) (prefixed b (n
 abbrev pub numberAt : List ℕ → ℕ → Found
 numberAt bytes at = numberFrom at (drop at bytes)
 
--- the same with at most so many groups, as the code counts them; `ten` says that ten are enough
-unfoldable pub groupsFrom : ℕ → ℕ → List ℕ → Found
-groupsFrom zero at bytes = none
-groupsFrom (suc k) at [] = none
-groupsFrom (suc k) at (b ∷ bytes) = cond (ltb b 128) (found b (at + 1)) (prefixed b (groupsFrom k (at + 1) bytes))
-
 -- the groups of a number, at most so many: `its-groups-read` and `only-its-groups` say that these bytes, and no others, read to it
 unfoldable pub groupsOf : ℕ → ℕ → List ℕ
 groupsOf zero v = []

@@ -1,7 +1,8 @@
 // The numbers of a script (document 01, 'Script'): groups of seven bits, low group first, in shortest form, below 2^64.
 ghost use mathlib.Core.Path.{_≡_};
 ghost use lib.ListN.{drop};
-ghost use Rattle.numbers.specs.Groups.{foundIn, prefixed, groupsFrom, numberAt};
+ghost use Rattle.numbers.specs.Groups.{foundIn, prefixed, numberAt};
+ghost use Rattle.numbers.specs.Parts.{groupsFrom};
 
 // What stands at a place of a script.
 pub enum Number {

@@ -22,7 +22,8 @@ use Rattle.script.specs.Whole.{Script, readScript, checkedIn, checkOf}
 use Rattle.script.proofs.Few.{few-events}
 use Rattle.run.specs.declared.Ran.{Ran}
 use Rattle.in_place.specs.Course.{along, answersOf, stopsIn, over}
-use Rattle.run.specs.Outcome.{outcome, outcomeIn, refusedRun, runEvents, runScript, fewerOf, Refuses, RunsFirst}
+use Rattle.run.specs.Outcome.{outcome, outcomeIn, refusedRun, runEvents, runScript}
+use Rattle.run.specs.Parts.{fewerOf, Refuses, RunsFirst}
 use Rattle.run.specs.Condition3.{ownAnswers, RanWhole, Condition3OfRun, RunWhole, Condition3OfTwo}
 use Rattle.run.proofs.Whole.{all-taken, accepted-is, bad-script, script-run}
 

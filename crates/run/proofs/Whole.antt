@@ -22,7 +22,8 @@ use Rattle.script.specs.declared.Checked.the-variants as C
 use Rattle.script.specs.Whole.{Header, header, noHeader, fieldHeader, headerIn, headerAt, Events, events, badFrom, eventsFrom, Script, accepted, bad, withEvents, withHeader, readScript, reads, badAt, checkedIn, checkScript, checkOf}
 use Rattle.run.specs.declared.Ran.{Ran}
 use Rattle.in_place.specs.Course.{Goes}
-use Rattle.run.specs.Outcome.{outcomeIn, refusedRun, runEvents, runScript, fewerOf, Refuses, RunsFirst}
+use Rattle.run.specs.Outcome.{outcomeIn, refusedRun, runEvents, runScript}
+use Rattle.run.specs.Parts.{fewerOf, Refuses, RunsFirst}
 
 -- ---- how many events
 

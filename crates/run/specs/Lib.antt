@@ -1,2 +1,3 @@
 pub mod Outcome
 pub mod Condition3
+pub mod Parts

@@ -1,16 +1,14 @@
 -- Document 01, 'Script': what a run of the first events of a script hands back and writes.
-use Prim.Native.Nat.{ℕ, _≤_}
-use mathlib.Core.Path.{_≡_}
+use Prim.Native.Nat.{ℕ}
 use mathlib.Core.Bool.{cond, _&&_}
 use mathlib.Core.List.{List}
-use lib.Dec.{leb, ltb}
+use lib.Dec.{leb}
 use lib.ListN.{length, take}
-use Rattle.answer.specs.declared.Answer.{Answer}
 use Rattle.answer.specs.Numbers.{numberOf}
 use Rattle.drive.specs.declared.Drive.{Drive}
 use Rattle.drive.specs.State.{freshDrive}
 use Rattle.drive.specs.Events.{Event, runOf}
-use Rattle.script.specs.Whole.{events, Script, accepted, bad, readScript}
+use Rattle.script.specs.Whole.{events, Script, accepted, bad}
 use Rattle.in_place.specs.Course.{answersOf, stopsIn, over}
 use Rattle.run.specs.declared.Ran.{Ran}
 
@@ -37,20 +35,3 @@ runEvents fresh es answers stops =
 abbrev pub runScript : Script → ℕ → List ℕ → List ℕ → RunOutcome
 runScript (accepted capacity bands sensors es) most answers stops = runEvents (freshDrive capacity bands sensors) (take most es) answers stops
 runScript (bad place) most answers stops = refusedRun 10 place answers stops
-
--- ---- the parts of the run
-
-abbrev pub fewerOf : ℕ → ℕ → ℕ
-fewerOf all most = cond (ltb most all) most all
-
-pub record Refuses (answer : Answer) (place : ℕ) (r : Ran) : Type 0 where
-  pub answer-is : r .answer ≡ answer
-  pub place-is : r .place ≡ place
-  pub count-is : r .count ≡ 0
-  pub drive-is : r .drive ≡ freshDrive 1 1 0
-
--- what is said of a script that reads to its end and has so many events
-abbrev pub RunsFirst : List ℕ → ℕ → List ℕ → List ℕ → Ran → List ℕ → List ℕ → Type 0
-RunsFirst s count answers stops r answers' stops' =
-    (capacity bands sensors : ℕ) (es : List Event) → readScript s ≡ accepted capacity bands sensors es → count ≤ length es
-    → outcomeIn r answers' stops' ≡ runEvents (freshDrive capacity bands sensors) (take count es) answers stops

@@ -2,7 +2,8 @@
 ghost use mathlib.Core.Path.{_≡_};
 ghost use Rattle.script.specs.Whole.{readScript};
 ghost use Rattle.run.specs.Condition3.{Condition3OfRun, Condition3OfTwo};
-ghost use Rattle.run.specs.Outcome.{fewerOf, Refuses, RunsFirst, outcomeIn, runScript};
+ghost use Rattle.run.specs.Outcome.{outcomeIn, runScript};
+ghost use Rattle.run.specs.Parts.{fewerOf, Refuses, RunsFirst};
 use answer::Answer;
 use drive::Drive;
 use script::Checked;

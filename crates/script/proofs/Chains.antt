@@ -17,7 +17,8 @@ use Rattle.script.specs.declared.FirstColumns.{FirstColumns}
 use Rattle.script.specs.declared.FirstColumns.the-variants as F
 use Rattle.script.specs.declared.BytesRead.{BytesRead}
 use Rattle.script.specs.declared.BytesRead.the-variants as P
-use Rattle.script.specs.Fields.{Parsed, event, broken, field, Follow, firstColumnsIn, firstColumnsAt, Stretch, stretch, cut, bytesReadIn, fieldTokens, tokensAt, columnAt, stretchAt, expressionAt, geometryAt, transferAt, ofKind, eventAt}
+use Rattle.script.specs.Fields.{Parsed, event, broken, field, Follow, firstColumnsAt, Stretch, stretch, cut, fieldTokens, tokensAt, columnAt, stretchAt, expressionAt, geometryAt, transferAt, ofKind, eventAt}
+use Rattle.script.specs.Parts.{firstColumnsIn, bytesReadIn}
 
 -- a number that does not read, and one that does
 pub read-bad : (r : Number) (f : Found) (k : ℕ → ℕ → Parsed) → foundIn r ≡ f → r ≡ Bad → broken ≡ field f k

@@ -9,9 +9,7 @@ use Rattle.numbers.specs.Groups.{Found, found, none, numberAt}
 use Rattle.drive.specs.Events.{Event, reading, elapse, reset, sensorSet, bandSet, geometry, transfer, eventOf}
 use Rattle.script.specs.declared.EventRead.{EventRead}
 use Rattle.script.specs.declared.EventRead.the-variants as R
-use Rattle.script.specs.declared.FirstColumns.{FirstColumns}
 use Rattle.script.specs.declared.FirstColumns.the-variants as F
-use Rattle.script.specs.declared.BytesRead.{BytesRead}
 use Rattle.script.specs.declared.BytesRead.the-variants as P
 
 -- what stands at a place: an event and the place after it, or none
@@ -36,11 +34,6 @@ unfoldable pub firstColumnsAt : List ℕ → ℕ → ℕ → Follow → Parsed
 firstColumnsAt s at mask follow =
     field (columnAt s at mask 1) (λ a at. field (columnAt s at mask 2) (λ b at. field (columnAt s at mask 4) (λ c at.
     field (columnAt s at mask 8) (λ d at. field (columnAt s at mask 16) (λ e at. follow a b c d e at)))))
-
--- the code's answer in these terms
-abbrev pub firstColumnsIn : FirstColumns → Follow → Parsed
-firstColumnsIn (F.Is a b c d e next) follow = follow a b c d e next
-firstColumnsIn F.Bad follow = broken
 
 -- 1 "reading (sensor, value)"
 unfoldable pub readingAt : List ℕ → ℕ → Parsed
@@ -86,10 +79,6 @@ stretchAt s none = cut
 
 abbrev pub expressionAt : List ℕ → ℕ → ℕ → Stretch
 expressionAt s at mask = cond (named 32 mask) (stretchAt s (numberAt s at)) (stretch 0 0 at)
-
-abbrev pub bytesReadIn : BytesRead → Stretch
-bytesReadIn (P.Is start count next) = stretch start count next
-bytesReadIn P.Bad = cut
 
 -- "an expression's bytes are a part of the script itself"; none where they would not lie in it
 abbrev pub tokensAt : List ℕ → ℕ → ℕ → List ℕ

@@ -5,23 +5,8 @@ ghost use mathlib.Core.Bool.{cond};
 ghost use lib.Dec.{eqb};
 ghost use lib.ListN.{length};
 ghost use Rattle.numbers.specs.Groups.{foundIn};
-ghost use Rattle.script.specs.Fields.{
-  columnAt,
-  Follow,
-  firstColumnsIn,
-  firstColumnsAt,
-  bytesReadIn,
-  expressionAt,
-  parsedIn,
-  readingAt,
-  elapseAt,
-  resetAt,
-  sensorSetAt,
-  bandSetAt,
-  geometryAt,
-  transferAt,
-  eventAt,
-};
+ghost use Rattle.script.specs.Fields.{columnAt, Follow, firstColumnsAt, expressionAt, parsedIn, readingAt, elapseAt, resetAt, sensorSetAt, bandSetAt, geometryAt, transferAt, eventAt};
+ghost use Rattle.script.specs.Parts.{firstColumnsIn, bytesReadIn};
 ghost use Rattle.script.specs.Whole.{headerIn, headerAt, checkedIn, checkOf};
 use band::BandColumns;
 use drive::Drive;

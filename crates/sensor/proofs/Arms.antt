@@ -12,7 +12,8 @@ use Rattle.phases.specs.declared.Move.the-variants.{Stays, Enters}
 use Rattle.phases.specs.declared.Cause.{Cause}
 use Rattle.sensor.specs.declared.single.Sensor.{Sensor}
 use Rattle.phases.specs.Phases.{moveOf, levelAfter}
-use Rattle.sensor.specs.Single.{withLevel, movedBy, entering, afterCause, turnCause, turnedTo, judgeOf, readingOf, readingAnswer, quietOf, withTimer, loweredBy}
+use Rattle.sensor.specs.Single.{withLevel, movedBy, entering, afterCause, turnCause, turnedTo, judgeOf, readingOf, readingAnswer, withTimer}
+use Rattle.sensor.specs.Parts.{quietOf, loweredBy}
 use Rattle.sensor.specs.Level.{greatestReading}
 use Rattle.sensor.specs.declared.columns.SensorColumns.{SensorColumns}
 use Rattle.sensor.specs.Columns.{columnsFit, setAnswer, storedOf, switchedOf, setOf}

@@ -10,7 +10,8 @@ use Rattle.phases.specs.declared.Phase.the-variants.{SS0, ST0, SS1, ST1, SS2}
 use Rattle.phases.specs.declared.Cause.the-variants.{TimerEnds}
 use Rattle.sensor.specs.declared.single.Sensor.{Sensor}
 use Rattle.phases.specs.Phases.{conditionIn, settled, moveOf}
-use Rattle.sensor.specs.Single.{sensorTick, afterCause, loweredBy, endsNext}
+use Rattle.sensor.specs.Single.{sensorTick, afterCause, endsNext}
+use Rattle.sensor.specs.Parts.{loweredBy}
 use Rattle.sensor.specs.Sound.{TimerAgrees, LevelAgrees, Sound}
 use Rattle.sensor.proofs.Ticks.{QuietFor, quiet-below, sensor-jumps, tick-last}
 

@@ -24,21 +24,8 @@ use Rattle.phases.specs.declared.Cause.the-variants.{
 }
 use Rattle.sensor.specs.declared.single.Sensor.{Sensor}
 use Rattle.phases.specs.Phases.{isEnabled, whenEnabled, whenDisabled, moveOf, settled, levelAfter}
-use Rattle.sensor.specs.Single.{
-  freshSensor,
-  moved,
-  movedBy,
-  withLevel,
-  withTimer,
-  afterCause,
-  timerIn,
-  turnCause,
-  turnedTo,
-  enableOf,
-  sensorTick,
-  loweredBy,
-  powerCycleOf,
-}
+use Rattle.sensor.specs.Single.{freshSensor, moved, movedBy, withLevel, withTimer, afterCause, timerIn, turnCause, turnedTo, enableOf, sensorTick, powerCycleOf}
+use Rattle.sensor.specs.Parts.{loweredBy}
 
 settled-off : (p : Phase) (s : Sensor) → timerIn (settled p) s ≡ 0
 settled-off SS0 s = refl

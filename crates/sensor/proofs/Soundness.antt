@@ -27,26 +27,8 @@ use Rattle.sensor.specs.declared.single.Sensor.{Sensor}
 use Rattle.sensor.specs.declared.columns.SensorColumns.{SensorColumns}
 use Rattle.phases.specs.Phases.{conditionIn, whenEnabled, whenDisabled, settled, powerCycled, moveOf}
 use Rattle.sensor.specs.Level.{greatestReading}
-use Rattle.sensor.specs.Single.{
-  freshSensor,
-  moved,
-  withLevel,
-  withTimer,
-  timerIn,
-  entering,
-  movedBy,
-  afterCause,
-  judgeOf,
-  turnCause,
-  turnedTo,
-  readingOf,
-  enableCause,
-  enableOf,
-  disableOf,
-  powerCycleOf,
-  sensorTick,
-  loweredBy,
-}
+use Rattle.sensor.specs.Single.{freshSensor, moved, withLevel, withTimer, timerIn, entering, movedBy, afterCause, judgeOf, turnCause, turnedTo, readingOf, enableCause, enableOf, disableOf, powerCycleOf, sensorTick}
+use Rattle.sensor.specs.Parts.{loweredBy}
 use Rattle.sensor.specs.Columns.{greatestFraction, columnsFit, storedOf, switchedOf, setOf}
 use Rattle.sensor.specs.Sound.{TimerAgrees, LevelAgrees, ConditionAgrees, Sound}
 use Rattle.sensor.proofs.Fits.{fitting}

@@ -12,7 +12,8 @@ use Rattle.base.proofs.Lists.{oneIf-le}
 use Rattle.base.proofs.Jumps.{Jumps}
 use Rattle.sensor.specs.declared.single.Sensor.{Sensor}
 use Rattle.phases.specs.declared.Cause.the-variants.{TimerEnds}
-use Rattle.sensor.specs.Single.{sensorTick, afterCause, withTimer, loweredBy, endsNext, runs, quietOf}
+use Rattle.sensor.specs.Single.{sensorTick, afterCause, withTimer, endsNext, runs}
+use Rattle.sensor.specs.Parts.{loweredBy, quietOf}
 use Rattle.sensor.proofs.Motion.{ended-stops}
 
 -- ---- one sensor

@@ -1,6 +1,6 @@
 -- Document 01, 'Sensors': one sensor, what each event and each tick makes of it. A sensor's phase says whether it is enabled, and its
 -- timer runs where it is not 0; so every value of the type has a meaning, also one that no event reaches.
-use Prim.Native.Nat.{ℕ, _-_, min}
+use Prim.Native.Nat.{ℕ, _-_}
 use mathlib.Core.Path.{_≡_}
 use mathlib.Core.Bool.{Bool, false, cond, Bool·beq}
 use mathlib.Core.List.{List, [], _∷_}
@@ -12,18 +12,7 @@ use Rattle.phases.specs.declared.Phase.the-variants.{SS0, ST0, SS1, ST1, SS2}
 use Rattle.phases.specs.declared.Move.{Move}
 use Rattle.phases.specs.declared.Move.the-variants.{Stays, Enters}
 use Rattle.phases.specs.declared.Cause.{Cause}
-use Rattle.phases.specs.declared.Cause.the-variants.{
-  TrueAtOnce,
-  TrueWaiting,
-  FalseAtOnce,
-  FalseWaiting,
-  TimerEnds,
-  EnabledTrueAtOnce,
-  EnabledTrueWaiting,
-  EnabledFalse,
-  Disabled,
-  PowerCycle,
-}
+use Rattle.phases.specs.declared.Cause.the-variants.{TrueAtOnce, TrueWaiting, FalseAtOnce, FalseWaiting, TimerEnds, EnabledTrueAtOnce, EnabledTrueWaiting, EnabledFalse, Disabled, PowerCycle}
 use Rattle.sensor.specs.declared.single.Sensor.{Sensor}
 use Rattle.sensor.specs.declared.single.SensorAnswer.{SensorAnswer}
 use Rattle.phases.specs.Phases.{conditionIn, moveOf, levelAfter}
@@ -140,14 +129,6 @@ runs s = ltb 0 (s .timer)
 
 abbrev pub endsNext : Sensor → Bool
 endsNext s = eqb (s .timer) 1
-
--- k ticks at once: the ticks to go less k
-abbrev pub loweredBy : ℕ → Sensor → Sensor
-loweredBy k s = withTimer (s .timer - k) s
-
--- the ticks that pass before the one that ends the timer, n at most
-abbrev pub quietOf : ℕ → Sensor → ℕ
-quietOf n s = cond (eqb (s .timer) 0) n (min n (s .timer - 1))
 
 -- What a reading or a Set hands back: the answer's number in document 01's table, and the sensor.
 pub record Answers (number : ℕ) (after : Sensor) (r : SensorAnswer) : Type 0 where

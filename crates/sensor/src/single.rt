@@ -2,7 +2,8 @@
 ghost use mathlib.Core.Path.{_≡_};
 ghost use mathlib.Core.Bool.{true, Bool·beq};
 ghost use Rattle.sensor.specs.Level.{thousandths, levelRule};
-ghost use Rattle.sensor.specs.Single.{freshSensor, judgeOf, withLevel, withTimer, timerIn, entering, afterCause, turnCause, turnedTo, readingAnswer, readingOf, enableCause, enableOf, disableOf, powerCycleOf, sensorTick, loweredBy, runs, endsNext, quietOf, Answers};
+ghost use Rattle.sensor.specs.Single.{freshSensor, judgeOf, withLevel, withTimer, timerIn, entering, afterCause, turnCause, turnedTo, readingAnswer, readingOf, enableCause, enableOf, disableOf, powerCycleOf, sensorTick, runs, endsNext, Answers};
+ghost use Rattle.sensor.specs.Parts.{loweredBy, quietOf};
 use answer::Answer;
 use phases::Cause;
 use phases::Move;

@@ -8,16 +8,18 @@ use native.Mathlib.Omega.{arith}
 use lib.Dec.{eqb}
 use borrow.Author.Tests.{eq-eqb, ne-eqb}
 use Rattle.base.specs.Lists.{oneIf, any, count}
-use Rattle.base.specs.Ticks.{Turns}
+use Rattle.base.specs.Parts.{Turns}
 use Rattle.base.specs.Ticks.{stops as stopsIn}
 use Rattle.base.proofs.Cases.{cond-true, cond-false}
 use Rattle.base.proofs.Jumps.{stops-bound}
 use Rattle.base.proofs.Turns.{Turnable, QuietMost, Running, run-state, run-stops}
 use Rattle.base.proofs.Turns.{turned as turned-any}
 use Rattle.sensor.specs.declared.single.Sensor.{Sensor}
-use Rattle.sensor.specs.Single.{sensorTick, loweredBy, endsNext, runs}
+use Rattle.sensor.specs.Single.{sensorTick, endsNext, runs}
+use Rattle.sensor.specs.Parts.{loweredBy}
 use Rattle.sensors.specs.declared.Turn.{Turn}
-use Rattle.sensors.specs.Sixteen.{quietTicks, tickAndQuiet, turnOf, Passes}
+use Rattle.sensors.specs.Sixteen.{Passes}
+use Rattle.sensors.specs.Parts.{quietTicks, tickAndQuiet, turnOf}
 use Rattle.sensors.proofs.Quiet.{
   AllQuiet,
   sensors-jump,

@@ -13,7 +13,8 @@ use Rattle.base.proofs.Lists.{or-le}
 use Rattle.base.proofs.Jumps.{Jumps}
 use Rattle.base.proofs.Loops.{Mapped, map-again, map-skip}
 use Rattle.sensor.specs.declared.single.Sensor.{Sensor}
-use Rattle.sensor.specs.Single.{sensorTick, loweredBy, powerCycleOf, endsNext, runs, quietOf}
+use Rattle.sensor.specs.Single.{sensorTick, powerCycleOf, endsNext, runs}
+use Rattle.sensor.specs.Parts.{loweredBy, quietOf}
 use Rattle.sensor.proofs.Ticks.{
   QuietFor,
   quiet-less,
@@ -29,7 +30,8 @@ use Rattle.sensor.proofs.Ticks.{
   ends-runs,
   runs-less,
 }
-use Rattle.sensors.specs.Sixteen.{quietTicks, conditionsBelow}
+use Rattle.sensors.specs.Sixteen.{conditionsBelow}
+use Rattle.sensors.specs.Parts.{quietTicks}
 
 -- no timer of the list ends within k ticks
 abbrev pub AllQuiet : ℕ → List Sensor → Type 0

@@ -1,21 +1,15 @@
 -- Document 01, 'Sensors': the sensors of a drive. Its array is a list here; all sixteen tick, whatever the header counts.
 use mathlib.Core.Path.{_≡_}
 use Prim.Native.Nat.{ℕ, zero, suc, _-_, _≤_}
-use mathlib.Core.Bool.{Bool, false, cond}
-use mathlib.Core.List.{List, [], _∷_, foldl, map}
-use lib.Dec.{eqb}
-use Rattle.base.specs.Lists.{any, oneIf}
+use mathlib.Core.Bool.{Bool, false}
+use mathlib.Core.List.{List, [], _∷_, map}
+use Rattle.base.specs.Lists.{any}
 use Rattle.base.specs.Lists.{count as countOf}
 use Rattle.base.specs.Ticks.{ticks}
 use Rattle.base.specs.Ticks.{stops as stopsIn}
 use Rattle.sensor.specs.declared.single.Sensor.{Sensor}
-use Rattle.sensor.specs.Single.{sensorTick, loweredBy, runs, endsNext, quietOf}
+use Rattle.sensor.specs.Single.{sensorTick, runs, endsNext}
 use Rattle.sensors.specs.declared.Passed.{Passed}
-use Rattle.sensors.specs.declared.Turn.{Turn}
-
--- the ticks that pass before some timer ends, n at most
-unfoldable pub quietTicks : ℕ → List Sensor → ℕ
-quietTicks n l = foldl quietOf n l
 
 -- "FALSE if that row is absent": the conditions, FALSE at and above the count
 unfoldable pub conditionsBelow : ℕ → List Sensor → List Bool
@@ -29,17 +23,3 @@ pub record Passes (n : ℕ) (l : List Sensor) (r : Passed) : Type 0 where
   pub sensors : r .sensors ≡ ticks (map sensorTick) n l
   pub stops : r .stops ≡ stopsIn (map sensorTick) (any endsNext) n l
   pub few : r .stops ≤ countOf runs l
-
--- ---- what the code does in between
-
--- one tick, and the quiet ticks after it, n at most
-abbrev pub tickAndQuiet : ℕ → List Sensor → Turn
-tickAndQuiet n l = record {
-  sensors = map (loweredBy (quietTicks n (map sensorTick l))) (map sensorTick l);
-  left = n - quietTicks n (map sensorTick l);
-  stops = oneIf (any endsNext l);
-}
-
--- a turn of an elapse, of n ticks that are to pass; nothing where there are none
-unfoldable pub turnOf : ℕ → List Sensor → Turn
-turnOf n l = cond (eqb n 0) (record { sensors = l; left = 0; stops = 0 }) (tickAndQuiet (n - 1) l)

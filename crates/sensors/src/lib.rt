@@ -3,8 +3,10 @@ ghost use mathlib.Core.Path.{_≡_};
 ghost use mathlib.Core.List.{map};
 ghost use Rattle.base.specs.Lists.{any, oneIf};
 ghost use Rattle.base.specs.Lists.{count as countOf};
-ghost use Rattle.sensor.specs.Single.{sensorTick, loweredBy, powerCycleOf, runs, endsNext};
-ghost use Rattle.sensors.specs.Sixteen.{quietTicks, turnOf, conditionsBelow, Passes};
+ghost use Rattle.sensor.specs.Single.{sensorTick, powerCycleOf, runs, endsNext};
+ghost use Rattle.sensor.specs.Parts.{loweredBy};
+ghost use Rattle.sensors.specs.Sixteen.{conditionsBelow, Passes};
+ghost use Rattle.sensors.specs.Parts.{quietTicks, turnOf};
 use sensor::Sensor;
 
 // The sensors after some ticks, and the stops among these.

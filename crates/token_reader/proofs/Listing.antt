@@ -19,7 +19,8 @@ use Rattle.token_reader.specs.declared.Head.{Head}
 use Rattle.token_reader.specs.declared.Head.the-variants.{Is, Broken}
 use Rattle.token_reader.specs.declared.Tokens.{Tokens}
 use Rattle.token_reader.specs.Format.{startsWith, partIn, widthOf, isEnd}
-use Rattle.token_reader.specs.Read.{TokenOutcome, elements, refusal, before, readElements, readList, readTokens, Tells, refused}
+use Rattle.token_reader.specs.Read.{TokenOutcome, elements, refusal, before, readElements, readList, readTokens, Tells}
+use Rattle.token_reader.specs.Parts.{refused}
 
 -- a refusal that the code makes tells an outcome of the same number
 pub refusal-tells : (o : TokenOutcome) (a : Answer) (t : Tokens) → t ≡ refused a → o ≡ refusal (numberOf a) → Tells o t

@@ -5,7 +5,6 @@ use mathlib.Core.Bool.{cond}
 use mathlib.Core.List.{List, [], _∷_}
 use lib.Dec.{eqb, ltb}
 use lib.ListN.{length, getD, drop}
-use Rattle.answer.specs.declared.Answer.{Answer}
 use Rattle.answer.specs.Numbers.{numberOf}
 use Rattle.expression.specs.declared.Element.{Element}
 use Rattle.expression.specs.declared.Expression.{Expression}
@@ -57,12 +56,5 @@ pub record Tells (o : TokenOutcome) (r : Tokens) : Type 0 where
   pub answer : numberOf (r .answer) ≡ answerIn o
   pub expression : r .expression ≡ expressionIn o
 
-abbrev pub ReadsList : List ℕ → Tokens → Type 0
-ReadsList bytes r = Tells (readList bytes) r
-
 abbrev pub Reads : List ℕ → Tokens → Type 0
 Reads bytes r = Tells (readTokens bytes) r
-
--- a refusal as the code makes it
-abbrev pub refused : Answer → Tokens
-refused a = record { answer = a; expression = expressionOf [] }

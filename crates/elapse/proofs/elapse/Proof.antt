@@ -1,5 +1,5 @@
 use borrow.Author.Needs.{needs}
-use Rattle.base.specs.Ticks.{turnsLeft, Turns}
+use Rattle.base.specs.Parts.{turnsLeft, Turns}
 use Rattle.base.proofs.Turns.{Running, run-begin, run-again}
 use Rattle.drive.specs.State.{tickOf, stopNext}
 use Rattle.elapse.specs.Jumps.{running}

@@ -1,5 +1,5 @@
 use borrow.Author.Needs.{needs}
-use Rattle.sensor.specs.Single.{loweredBy}
+use Rattle.sensor.specs.Parts.{loweredBy}
 use Prim.Native.Nat.{_-_}
 use Rattle.base.proofs.Loops.{Mapped, map-begin, map-again, map-done}
 use Rattle.sensors.proofs.lower_all.Statement.{statement}

@@ -1,7 +1,7 @@
 use borrow.Author.Needs.{needs}
 use mathlib.Core.List.{map}
 use Rattle.base.specs.Lists.{any, count}
-use Rattle.base.specs.Ticks.{turnsLeft, Turns}
+use Rattle.base.specs.Parts.{turnsLeft, Turns}
 use Rattle.base.proofs.Turns.{Running, run-begin, run-again}
 use Rattle.sensor.specs.Single.{sensorTick, endsNext, runs}
 use Rattle.sensors.proofs.Passing.{turn-turns, run-done}

@@ -1,6 +1,6 @@
 use borrow.Author.Needs.{needs}
-use Rattle.sensors.specs.Sixteen.{quietTicks}
-use Rattle.sensor.specs.Single.{quietOf}
+use Rattle.sensors.specs.Parts.{quietTicks}
+use Rattle.sensor.specs.Parts.{quietOf}
 use Prim.Native.Nat.{_-_}
 use Rattle.base.proofs.Loops.{Folded, fold-begin, fold-again, fold-done}
 use Rattle.sensors.proofs.quiet_ticks.Statement.{statement}
