@@ -60,6 +60,13 @@ unfoldable pub settleRow : List Bool → Row → Row
 settleRow conditions row = lockUnder (valueIn conditions row) row
 
 -- "LockOnReset (a set as bits: 1 power cycle, 2 hardware, 4 hot plug ..)"; "Reset types: 0 power cycle, 1 hardware, 2 hot plug."
+abbrev pub lastResetType : ℕ
+lastResetType = 2
+
+-- the set of all types
+abbrev pub allResets : ℕ
+allResets = 7
+
 abbrev pub inSet : ℕ → ℕ → Bool
 inSet set zero = named 1 set
 inSet set (suc zero) = named 2 set

@@ -8,18 +8,22 @@ use Rattle.band.specs.declared.Side.{Side}
 use Rattle.band.specs.declared.Side.the-variants.{Read, Write}
 use Rattle.band.specs.declared.Row.{Row}
 use Rattle.band.specs.declared.BandColumns.{BandColumns}
-use Rattle.band.specs.Rows.{enabledOn}
+use Rattle.band.specs.Rows.{allResets, enabledOn}
+
+-- the masks of six bits are those below
+abbrev pub bandMasks : ℕ
+bandMasks = 64
 
 -- Every bit of the mask is one of the six, and every named value is in its range: "LockOnReset 0 to 7", "The rest are booleans."
 unfoldable pub columnsFit : BandColumns → Bool
 columnsFit c =
     let m = c .mask in
-    ltb m 64
+    ltb m bandMasks
     && (within 1 (named 1 m) (c .«read_lock_enabled»)
     && (within 1 (named 2 m) (c .«write_lock_enabled»)
     && (within 1 (named 4 m) (c .«read_locked»)
     && (within 1 (named 8 m) (c .«write_locked»)
-    && within 7 (named 16 m) (c .«lock_on_reset»)))))
+    && within allResets (named 16 m) (c .«lock_on_reset»)))))
 
 -- "A Set forms the new row": the named columns are the Set's, the others as they were. The expression is what the Set's bytes read to.
 unfoldable pub formedRow : BandColumns → Expression → Row → Row

@@ -63,6 +63,9 @@ fn has(set: u64, bit: u64) -> bool
 }
 
 impl Row {
+    // The greatest reset type: 0 power cycle, 1 hardware, 2 hot plug.
+    pub const LAST_RESET: u64 = 2;
+
     // The row of a fresh drive.
     pub fn fresh() -> Row
         ensures { λ r. ⌜ r ≡ freshRow ⌝ }
@@ -192,12 +195,18 @@ impl Row {
 }
 
 impl BandColumns {
+    // The masks of six bits are those below.
+    pub const MASKS: u64 = 64;
+
+    // The set of all reset types.
+    pub const ALL_RESETS: u64 = 7;
+
     // Whether every bit of the mask is known and every named value is in its range.
     pub fn fit(self) -> bool
         ensures { λ r. ⌜ r ≡ columnsFit self ⌝ }
     {
         let mask = self.mask;
-        if 64 <= mask {
+        if BandColumns::MASKS <= mask {
             return false;
         }
         if !in_range(mask, 1, self.read_lock_enabled, 1) {
@@ -212,7 +221,7 @@ impl BandColumns {
         if !in_range(mask, 8, self.write_locked, 1) {
             return false;
         }
-        in_range(mask, 16, self.lock_on_reset, 7)
+        in_range(mask, 16, self.lock_on_reset, BandColumns::ALL_RESETS)
     }
 
     // Whether the Set names the expression.

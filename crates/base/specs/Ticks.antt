@@ -3,6 +3,10 @@ use Prim.Native.Nat.{ℕ, zero, suc, _+_}
 use mathlib.Core.Bool.{Bool}
 use Rattle.base.specs.Lists.{oneIf}
 
+-- "An elapse of n (0 to 4,294,967,295)"
+abbrev pub mostTicks : ℕ
+mostTicks = 4294967295
+
 -- the state after n ticks
 unfoldable pub ticks : {S : Type 0} → (S → S) → ℕ → S → S
 ticks tick zero s = s

@@ -5,7 +5,7 @@ use mathlib.Core.Bool.{Bool, not, cond, _||_}
 use mathlib.Core.List.{List, [], _∷_, map}
 use lib.Dec.{eqb, ltb}
 use lib.ListN.{length}
-use Rattle.base.specs.Ticks.{ticks, stops}
+use Rattle.base.specs.Ticks.{mostTicks, ticks, stops}
 use Rattle.base.specs.Columns.{named}
 use Rattle.base.specs.Refusals.{Refusal, when, firstOf, LowestOf}
 use Rattle.base.specs.Rows.{isRow, modify}
@@ -13,12 +13,12 @@ use Rattle.answer.specs.Numbers.{numberOf}
 use Rattle.sensor.specs.declared.columns.SensorColumns.{SensorColumns}
 use Rattle.sensor.specs.Single.{readingRefusals, readingOf, powerCycleOf}
 use Rattle.sensor.specs.Columns.{setRefusals, setOf}
-use Rattle.token_reader.specs.Read.{readTokens, answerIn, expressionIn}
+use Rattle.token_reader.specs.Read.{mostTokenBytes, readTokens, answerIn, expressionIn}
 use Rattle.band.specs.declared.Side.{Side}
 use Rattle.band.specs.declared.Side.the-variants.{Read, Write}
 use Rattle.band.specs.declared.Row.{Row}
 use Rattle.band.specs.declared.BandColumns.{BandColumns}
-use Rattle.band.specs.Rows.{closedOn, valueIn, resetRow}
+use Rattle.band.specs.Rows.{closedOn, valueIn, lastResetType, resetRow}
 use Rattle.band.specs.Sets.{formedRow, heldBy}
 use Rattle.band.specs.Sets.{columnsFit as bandColumnsFit}
 use Rattle.geometry.specs.Events.{placeRefusals, transferRefusals, placed}
@@ -92,7 +92,7 @@ heldUnder conditions c new = heldBy c new (valueIn conditions new)
 -- expression bytes gets 2"), 3 "not tokens" and 4 "too long" ("the one met first from the left"), 8 "held: an unlock under a TRUE expression"
 abbrev pub rowRefusalsIf : BandColumns → List ℕ → (held : Bool) → List Refusal
 rowRefusalsIf c bytes held =
-    when 2 (not (bandColumnsFit c) || ltb 1024 (length bytes))
+    when 2 (not (bandColumnsFit c) || ltb mostTokenBytes (length bytes))
     ∷ when 3 (eqb (tokensAnswer c bytes) 3)
     ∷ when 4 (eqb (tokensAnswer c bytes) 4)
     ∷ when 8 held
@@ -111,8 +111,8 @@ noRow count i = when 1 (not (isRow count i))
 
 abbrev pub refusals : Drive → Event → List Refusal
 refusals d (reading s v) = noRow (d .«sensor_count») s ∷ readingRefusals v
-refusals d (elapse n) = when 2 (ltb 4294967295 n) ∷ []
-refusals d (reset t) = when 2 (ltb 2 t) ∷ []
+refusals d (elapse n) = when 2 (ltb mostTicks n) ∷ []
+refusals d (reset t) = when 2 (ltb lastResetType t) ∷ []
 refusals d (sensorSet s c) = noRow (d .«sensor_count») s ∷ setRefusals c
 refusals d (bandSet b c bytes) = noRow (d .«band_count») b ∷ rowRefusals (conditionsOf d) c bytes (rowAt d b)
 refusals d (geometry b start n) = placeRefusals (d .capacity) (d .«band_count») (d .spans) b start n

@@ -2,6 +2,9 @@
 ghost use Rattle.elapse.specs.Jumps.{Elapses};
 use drive::Drive;
 
+// The most ticks of an elapse.
+pub const MOST_TICKS: u64 = 4_294_967_295;
+
 // The drive after an elapse, and the elapse's stops.
 pub struct Elapsed {
     pub drive: Drive,

@@ -98,7 +98,7 @@ pub fn value(elements: [Element; 32], count: usize, conditions: [bool; 16]) -> b
     ensures { λ r. ⌜ r ≡ valueOf conditions (take count elements) ⌝ }
 {
     let mut stack: u64 = 1;
-    for i in 0..32 {
+    for i in 0..Expression::ELEMENTS {
         if count <= i {
             return stack == 3;
         }

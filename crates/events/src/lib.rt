@@ -24,9 +24,6 @@ use sensor::Sensor;
 use sensor::SensorAnswer;
 use sensor::SensorColumns;
 
-// The greatest elapse.
-pub const MOST_TICKS: u64 = 4_294_967_295;
-
 // Granted, document 01's word: the answer is done.
 fn granted(answer: Answer) -> bool
     ensures { λ r. ⌜ r ≡ eqb (numberOf answer) 0 ⌝ }
@@ -106,7 +103,7 @@ pub fn elapse(drive: Drive, ticks: u64) -> Reply
     ensures { λ r. ⌜ Replies drive (E.elapse ticks) r ⌝ }
     ensures few { λ r. ⌜ r .stops ≤ running drive ⌝ }
 {
-    if MOST_TICKS < ticks {
+    if elapse::MOST_TICKS < ticks {
         return refuse(drive, Answer::OutOfRange);
     }
     let elapsed = elapse::elapse(drive, ticks as u32);
@@ -133,7 +130,7 @@ fn cycled(sensors: [Sensor; 16], reset_type: u64) -> [Sensor; 16]
 pub fn reset(drive: Drive, reset_type: u64) -> Reply
     ensures { λ r. ⌜ Replies drive (E.reset «reset_type») r ⌝ }
 {
-    if 2 < reset_type {
+    if Row::LAST_RESET < reset_type {
         return refuse(drive, Answer::OutOfRange);
     }
     let rows = drive.rows;

@@ -7,6 +7,10 @@ use Rattle.expression.specs.declared.Part.the-variants.{Reference, Opera
 use Rattle.expression.specs.declared.Element.{Element}
 use Rattle.expression.specs.declared.Expression.{Expression}
 
+-- "0 to 32 elements"
+abbrev pub mostElements : ℕ
+mostElements = 32
+
 abbrev pub element : Part → Element
 element p = record { part = p }
 
@@ -18,9 +22,9 @@ blank = element (Operator 0)
 abbrev pub elementsIn : Expression → List Element
 elementsIn x = take (x .count) (x .elements)
 
--- a list of at most 32 elements as it is stored
+-- a list of at most so many elements as it is stored
 abbrev pub expressionOf : List Element → Expression
-expressionOf es = record { elements = es ++ replicate (32 - length es) blank; count = length es }
+expressionOf es = record { elements = es ++ replicate (mostElements - length es) blank; count = length es }
 
 -- "four row bytes", "one byte 00 AND, 01 OR or 02 NOT": what the token form can hold
 abbrev pub PartFits : Part → Type 0

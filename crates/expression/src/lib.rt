@@ -15,7 +15,7 @@ pub struct Element {
 
 // The first `count` elements count; the others are blank.
 pub struct Expression {
-    pub elements: [Element; 32],
+    pub elements: [Element; Expression::ELEMENTS],
     pub count: usize,
 }
 
@@ -30,7 +30,7 @@ impl Expression {
         let blank = Element {
             part: Part::Operator(0),
         };
-        let elements = [blank; 32];
+        let elements = [blank; Expression::ELEMENTS];
         Expression { elements, count: 0 }
     }
 }

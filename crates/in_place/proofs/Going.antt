@@ -24,7 +24,8 @@ use Rattle.events.proofs.Arms.{row-place}
 use Rattle.script.specs.declared.EventRead.{EventRead}
 use Rattle.script.specs.declared.EventRead.the-variants as R
 use Rattle.script.specs.Fields.{Parsed, event, broken, parsedIn, tokensAt, eventAt}
-use Rattle.script.specs.Whole.{Events, events, badFrom, before, andThen, eventsIn, eventsFrom}
+use Rattle.script.specs.Fields.{Events, events, badFrom, before, andThen}
+use Rattle.script.specs.Parts.{eventsIn, eventsFrom}
 use Rattle.in_place.specs.Course.{along, over, Went, Goes, Kept}
 use Rattle.in_place.proofs.Parts.{few-counted}
 use Rattle.in_place.proofs.Keeping.{step-kept}

@@ -6,7 +6,8 @@ use lib.ListN.{length, take, drop}
 use Rattle.drive.specs.declared.Drive.{Drive}
 use Rattle.drive.specs.State.{settleOf}
 use Rattle.drive.specs.Events.{Event, answerOf, stopsOf, stepOf, runOf}
-use Rattle.script.specs.Whole.{events, eventsFrom}
+use Rattle.script.specs.Fields.{events}
+use Rattle.script.specs.Parts.{eventsFrom}
 
 -- what each event of a list gets, on the drive that the last one left
 unfoldable pub along : (Drive → Event → ℕ) → Drive → List Event → List ℕ

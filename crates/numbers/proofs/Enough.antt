@@ -17,12 +17,12 @@ top (suc k) = 128 * top k
 -- what a further group says: the rest's number, which is not 0 and is below 2^57
 pub more-is : (b : ℕ) (r : Found) (v n : ℕ) → prefixed b r ≡ found v n → (w : ℕ) × (r ≡ found w n) × (0 < w) × (w < 144115188075855872) × (v ≡ b % 128 + 128 * w)
 more-is b none v n h = let z : _≡_ {A = ℕ} 0 1 = cc in absurd (omega arith)
-more-is b (found w m) v n h = go (eqb w 0) refl (ltb w 144115188075855872) refl h
+more-is b (found w m) v n h = go (eqb w 0) refl (ltb (b % 128 + 128 * w) 18446744073709551616) refl h
   where
-    go : (t : Bool) → eqb w 0 ≡ t → (u : Bool) → ltb w 144115188075855872 ≡ u → cond t none (cond u (found (b % 128 + 128 * w) m) none) ≡ found v n
+    go : (t : Bool) → eqb w 0 ≡ t → (u : Bool) → ltb (b % 128 + 128 * w) 18446744073709551616 ≡ u → cond t none (cond u (found (b % 128 + 128 * w) m) none) ≡ found v n
         → (x : ℕ) × (found w m ≡ found x n) × (0 < x) × (x < 144115188075855872) × (v ≡ b % 128 + 128 * x)
     go true p u q h = let z : _≡_ {A = ℕ} 0 1 = cc in absurd (omega arith)
-    go false p true q h = (w, cc, go-pos w (eqb-false w 0 p), ltb-true w 144115188075855872 q, cc)
+    go false p true q h = (w, cc, go-pos w (eqb-false w 0 p), omega (arith, ltb-true (b % 128 + 128 * w) 18446744073709551616 q), cc)
       where
         go-pos : (x : ℕ) → (x ≡ 0 → ⊥) → 0 < x
         go-pos zero f = absurd (f refl)

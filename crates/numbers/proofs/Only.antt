@@ -52,7 +52,7 @@ reads (suc k) at v rest l f = go (reads k (at + 1) (v / 128) rest (omega (arith,
         let high = ltb-false v 128 p in
         let b : ltb (v % 128 + 128) 128 ≡ false = le-ltb (v % 128 + 128) 128 (omega arith) in
         let z = ne-eqb (v / 128) 0 (λ e. omega (arith, e, high)) in
-        let y = lt-ltb (v / 128) 144115188075855872 (omega (arith, f)) in
+        let y = lt-ltb ((v % 128 + 128) % 128 + 128 * (v / 128)) 18446744073709551616 (omega (arith, f)) in
         let w : (v % 128 + 128) % 128 + 128 * (v / 128) ≡ v = omega arith in
         let n : at + 1 + length (groupsOf (suc k) (v / 128)) ≡ at + suc (length (groupsOf (suc k) (v / 128))) = omega arith in
         rw (b, ih, z, y, w, n)

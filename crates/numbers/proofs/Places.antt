@@ -82,10 +82,10 @@ module _ (group v next : ℕ) (rest : Number) (e : rest ≡ Is v next) where
   joined-zero z = rw (e, eq-eqb v 0 z)
 
   pub joined-fits : (v ≡ 0 → ⊥) → v < 144115188075855872 → found (group % 128 + 128 * v) next ≡ prefixed group (foundIn rest)
-  joined-fits n h = rw (e, ne-eqb v 0 n, lt-ltb v 144115188075855872 h)
+  joined-fits n h = rw (e, ne-eqb v 0 n, lt-ltb (group % 128 + 128 * v) 18446744073709551616 (omega (arith, h)))
 
   pub joined-large : (v ≡ 0 → ⊥) → 144115188075855872 ≤ v → none ≡ prefixed group (foundIn rest)
-  joined-large n h = rw (e, ne-eqb v 0 n, le-ltb v 144115188075855872 h)
+  joined-large n h = rw (e, ne-eqb v 0 n, le-ltb (group % 128 + 128 * v) 18446744073709551616 (omega (arith, h)))
 
 pub joined-bad : (group : ℕ) (rest : Number) → rest ≡ Bad → none ≡ prefixed group (foundIn rest)
 joined-bad group rest e = rw e

@@ -21,7 +21,8 @@ foundIn Bad = none
 
 -- a group in front of a number: the number is not 0, or the form would not be the shortest, and the whole is below 2^64
 abbrev pub prefixed : ℕ → Found → Found
-prefixed group (found v next) = cond (eqb v 0) none (cond (ltb v 144115188075855872) (found (group % 128 + 128 * v) next) none)
+prefixed group (found v next) =
+    let whole = group % 128 + 128 * v in cond (eqb v 0) none (cond (ltb whole 18446744073709551616) (found whole next) none)
 prefixed group none = none
 
 -- the number that starts the bytes, whose first has the place at

@@ -8,10 +8,10 @@ use Rattle.sensor.specs.Single.{freshSensor}
 use Rattle.sensor.specs.Sound.{Sound}
 use Rattle.expression.specs.declared.Element.{Element}
 use Rattle.expression.specs.declared.Expression.{Expression}
-use Rattle.expression.specs.Elements.{expressionOf, AllFit}
+use Rattle.expression.specs.Elements.{mostElements, expressionOf, AllFit}
 use Rattle.token_reader.specs.Format.{Bytes}
 use Rattle.band.specs.declared.Row.{Row}
-use Rattle.band.specs.Rows.{freshRow}
+use Rattle.band.specs.Rows.{freshRow, allResets}
 use Rattle.geometry.specs.Blocks.{bandSpans, overlapping}
 use Rattle.geometry.specs.Events.{noSpan, Within}
 use Rattle.drive.specs.declared.Drive.{Drive}
@@ -34,13 +34,13 @@ pub record Stored (x : Expression) : Type 0 where
   -- the list, and blank cells after it
   pub same : x ≡ expressionOf list
   -- "0 to 32 elements"
-  pub few : length list ≤ 32
+  pub few : length list ≤ mostElements
   -- references with "four row bytes", and the operators "00 AND, 01 OR or 02 NOT"
   pub fit : AllFit list
 
 pub record RowFits (row : Row) : Type 0 where
   -- "LockOnReset (a set as bits: .. 0 to 7)"
-  pub «lock_on_reset» : row .«lock_on_reset» ≤ 7
+  pub «lock_on_reset» : row .«lock_on_reset» ≤ allResets
   -- "Empty or malformed is stored" too
   pub expression : Stored (row .expression)
 

@@ -8,7 +8,8 @@ use Rattle.answer.specs.Numbers.{numberOf}
 use Rattle.drive.specs.declared.Drive.{Drive}
 use Rattle.drive.specs.State.{freshDrive}
 use Rattle.drive.specs.Events.{Event, runOf}
-use Rattle.script.specs.Whole.{events, Script, accepted, bad}
+use Rattle.script.specs.Fields.{events}
+use Rattle.script.specs.Whole.{Script, accepted, bad}
 use Rattle.in_place.specs.Course.{answersOf, stopsIn, over}
 use Rattle.run.specs.declared.Ran.{Ran}
 

@@ -1,12 +1,12 @@
 -- Fields one after the other: what a call found, and what is read on from there. `search fields` goes along a chain of them.
-use mathlib.Core.Path.{_≡_, refl, sym, ap, _∙_}
+use mathlib.Core.Path.{_≡_, refl, sym, ap, _∙_, subst}
 use Prim.Native.Nat.{ℕ, _+_, _-_, _/_, _%_, _≤_, _<_}
 use native.Mathlib.Omega.{arith}
 use mathlib.Core.Bool.{Bool, true, false, cond}
 use mathlib.Core.List.{List}
-use lib.Dec.{eqb, leb}
+use lib.Dec.{eqb, leb, ltb}
 use lib.ListN.{length}
-use borrow.Author.Tests.{le-leb, lt-leb, eq-eqb, ne-eqb, eqb-true, eqb-false, leb-true}
+use borrow.Author.Tests.{lt-ltb, le-ltb, le-leb, lt-leb, eq-eqb, ne-eqb, eqb-true, eqb-false, leb-true}
 use Rattle.base.specs.Columns.{named}
 use Rattle.base.proofs.Cases.{cond-true, cond-false}
 use Rattle.numbers.specs.declared.Number.{Number}
@@ -17,6 +17,7 @@ use Rattle.script.specs.declared.FirstColumns.{FirstColumns}
 use Rattle.script.specs.declared.FirstColumns.the-variants as F
 use Rattle.script.specs.declared.BytesRead.{BytesRead}
 use Rattle.script.specs.declared.BytesRead.the-variants as P
+use Rattle.script.proofs.Bounds.{NumberIn, number-here}
 use Rattle.script.specs.Fields.{Parsed, event, broken, field, Follow, firstColumnsAt, Stretch, stretch, cut, fieldTokens, tokensAt, columnAt, stretchAt, expressionAt, geometryAt, transferAt, ofKind, eventAt}
 use Rattle.script.specs.Parts.{firstColumnsIn, bytesReadIn}
 
@@ -45,11 +46,11 @@ pub tokens-is : (s : List ℕ) (r : BytesRead) (f : Stretch) (k : List ℕ → �
 tokens-is s r f k start count n p e q w = w ∙ sym (ap (λ (x : Stretch). fieldTokens s x k) (sym e ∙ ap bytesReadIn q))
 
 -- a mask with an unknown bit, and one without
-pub mask-unknown : (mask most limit : ℕ) (x : Parsed) → limit < mask → leb most limit ≡ true → broken ≡ cond (leb mask most) x broken
-mask-unknown mask most limit x h k = sym (ap (λ (b : Bool). cond b x broken) (lt-leb mask most (omega (arith, h, leb-true most limit k))))
+pub mask-unknown : (mask masks limit : ℕ) (x : Parsed) → limit ≤ mask → leb masks limit ≡ true → broken ≡ cond (ltb mask masks) x broken
+mask-unknown mask masks limit x h k = cond-false (ltb mask masks) _ _ _ (le-ltb mask masks (omega (arith, h, leb-true masks limit k))) refl
 
-pub mask-known : (mask most : ℕ) (x p : Parsed) → mask ≤ most → p ≡ x → p ≡ cond (leb mask most) x broken
-mask-known mask most x p h w = w ∙ sym (ap (λ (b : Bool). cond b x broken) (le-leb mask most h))
+pub mask-known : (mask masks : ℕ) (x p : Parsed) → mask < masks → p ≡ x → p ≡ cond (ltb mask masks) x broken
+mask-known mask masks x p h e = cond-true (ltb mask masks) _ _ _ (lt-ltb mask masks h) e
 
 pub ruleset fields = (read-bad, read-is, five-bad, five-is, tokens-bad, tokens-is, mask-unknown, mask-known)
 
@@ -78,21 +79,19 @@ module _ (s : List ℕ) (at mask : ℕ) (r : Number) (h : mask / 32 % 2 ≡ 1) (
     pub expression-long : 1024 < size → cut ≡ expressionAt s at mask
     expression-long k = cond-false (leb size 1024) _ _ _ (lt-leb size 1024 k) refl ∙ at-size
 
-    pub expression-past : size ≤ 1024 → length s < n → cut ≡ expressionAt s at mask
-    expression-past k l =
-        cond-true (leb size 1024) _ _ _ (le-leb size 1024 k) (cond-false (leb n (length s)) _ _ _ (lt-leb n (length s) l) refl) ∙ at-size
+    -- the place after a number lies within the script
+    pub expression-past : length s < n → cut ≡ expressionAt s at mask
+    expression-past l =
+        let b : NumberIn at (length s) (found size n) = subst (NumberIn at (length s)) (sym e ∙ ap foundIn q) (number-here s at) in
+        absurd (omega (arith, l, b .1))
 
-    pub expression-cut : size ≤ 1024 → n ≤ length s → length s - n < size → cut ≡ expressionAt s at mask
-    expression-cut k l m =
-        cond-true (leb size 1024) _ _ _ (le-leb size 1024 k)
-        (cond-true (leb n (length s)) _ _ _ (le-leb n (length s) l) (cond-false (leb size (length s - n)) _ _ _ (lt-leb size (length s - n) m) refl))
-        ∙ at-size
+    pub expression-cut : size ≤ 1024 → length s - n < size → cut ≡ expressionAt s at mask
+    expression-cut k m =
+        cond-true (leb size 1024) _ _ _ (le-leb size 1024 k) (cond-false (leb size (length s - n)) _ _ _ (lt-leb size (length s - n) m) refl) ∙ at-size
 
-    pub expression-is : size ≤ 1024 → n ≤ length s → size ≤ length s - n → stretch n size (n + size) ≡ expressionAt s at mask
-    expression-is k l m =
-        cond-true (leb size 1024) _ _ _ (le-leb size 1024 k)
-        (cond-true (leb n (length s)) _ _ _ (le-leb n (length s) l) (cond-true (leb size (length s - n)) _ _ _ (le-leb size (length s - n) m) refl))
-        ∙ at-size
+    pub expression-is : size ≤ 1024 → size ≤ length s - n → stretch n size (n + size) ≡ expressionAt s at mask
+    expression-is k m =
+        cond-true (leb size 1024) _ _ _ (le-leb size 1024 k) (cond-true (leb size (length s - n)) _ _ _ (le-leb size (length s - n) m) refl) ∙ at-size
 
 -- ---- three numbers, and what they and the place after them go on to
 

@@ -2,10 +2,11 @@
 use mathlib.Core.Path.{_≡_, refl, sym, ap, _∙_}
 use Prim.Native.Nat.{ℕ, zero, suc, _+_, _-_, _≤_, _<_}
 use native.Mathlib.Omega.{arith}
+use mathlib.Core.Bool.{Bool, true, false, cond}
 use mathlib.Core.List.{List, []}
 use lib.Dec.{ltb}
 use lib.ListN.{length, take, drop}
-use borrow.Author.Tests.{lt-ltb, le-ltb, le-leb}
+use borrow.Author.Tests.{lt-ltb, le-ltb, ltb-true, ltb-false, le-leb}
 use Rattle.base.proofs.Cases.{cond-true, cond-false}
 use Rattle.numbers.specs.declared.Number.{Number}
 use Rattle.numbers.specs.declared.Number.the-variants.{Is, Bad}
@@ -16,8 +17,10 @@ use Rattle.script.specs.declared.EventRead.the-variants as R
 use Rattle.script.specs.declared.HeaderRead.{HeaderRead}
 use Rattle.script.specs.declared.HeaderRead.the-variants as H
 use Rattle.script.specs.declared.Checked.{Checked}
-use Rattle.script.specs.Fields.{Parsed, event, parsedIn, tokensAt, eventAt}
-use Rattle.script.specs.Whole.{Header, noHeader, fieldHeader, headerIn, headerAt, Events, events, badFrom, before, andThen, eventsIn, eventsFrom, withEvents, withHeader, readScript, Check, reads, badAt, checkedIn, checkEvents, checkFrom, checkScript, checkOf}
+use Rattle.script.specs.Fields.{Parsed, event, broken, parsedIn, tokensAt, eventAt}
+use Rattle.script.specs.Fields.{Events, events, badFrom, before, andThen}
+use Rattle.script.specs.Whole.{Header, noHeader, fieldHeader, headerIn, headerAt, withEvents, withHeader, readScript, Check, reads, badAt, checkedIn, checkEvents, checkFrom, checkScript, checkOf, ReadsOn}
+use Rattle.script.specs.Parts.{eventsIn, eventsFrom}
 use Rattle.script.proofs.Progress.{event-past}
 
 -- ---- the header
@@ -135,3 +138,34 @@ tokens-part s start count h k =
     let e : start + count - start ≡ count = omega arith in
     ap (λ (n : ℕ). take n (drop start s)) e
     ∙ cond-true (lib.Dec.leb start (length s)) _ _ _ (le-leb start (length s) h) (cond-true (lib.Dec.leb count (length s - start)) _ _ _ (le-leb count (length s - start) k) refl)
+
+-- ---- the events from a place on, with no count of the bytes that are left
+
+same-events : (k l : ℕ) (s : List ℕ) (at : ℕ) → length s - at ≤ k → length s - at ≤ l → eventsIn k s at ≡ eventsIn l s at
+unfolding eventsIn
+same-events zero l s at h g = sym (no-events l s at (omega (arith, h)))
+same-events (suc k) zero s at h g = no-events (suc k) s at (omega (arith, g))
+same-events (suc k) (suc l) s at h g = go (ltb at (length s)) refl (eventAt s at) refl (λ n p. same-events k l s n (omega (arith, h, p)) (omega (arith, g, p)))
+  where
+    go : (t : Bool) → ltb at (length s) ≡ t → (p : Parsed) → eventAt s at ≡ p → ((n : ℕ) → (at < n) × (at < length s) → eventsIn k s n ≡ eventsIn l s n)
+        → cond t (andThen at p (λ n. eventsIn k s n)) (events []) ≡ cond t (andThen at p (λ n. eventsIn l s n)) (events [])
+    go false q p e more = refl
+    go true q broken e more = refl
+    go true q (event x n) e more = ap (before x) (more n (event-past s at x n e, ltb-true at (length s) q))
+
+pub reads-on : ReadsOn
+unfolding eventsFrom
+reads-on s at = go (ltb at (length s)) refl
+  where
+    go : (t : Bool) → ltb at (length s) ≡ t → eventsFrom s at ≡ cond t (andThen at (eventAt s at) (λ n. eventsFrom s n)) (events [])
+    go false q = no-events (length s - at) s at (ltb-false at (length s) q)
+    go true q =
+        let h = ltb-true at (length s) q in
+        let e : length s - at ≡ suc (length s - at - 1) = omega (arith, h) in
+        ap (λ (k : ℕ). eventsIn k s at) e ∙ one-event (length s - at - 1) s at h ∙ after (eventAt s at) refl
+      where
+        after : (p : Parsed) → eventAt s at ≡ p → andThen at p (λ n. eventsIn (length s - at - 1) s n) ≡ andThen at p (λ n. eventsFrom s n)
+        after broken e = refl
+        after (event x n) e =
+            let h = ltb-true at (length s) q in
+            ap (before x) (same-events (length s - at - 1) (length s - n) s n (omega (arith, h, event-past s at x n e)) (omega arith))

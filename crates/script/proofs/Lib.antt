@@ -1,3 +1,4 @@
+pub mod Bounds
 pub mod Chains
 pub mod Progress
 pub mod Checking

@@ -8,7 +8,11 @@ use lib.Dec.{eqb, leb, ltb}
 use lib.ListN.{length, drop, drop-of-length-le, length-drop}
 use borrow.Author.Tests.{ltb-true, ltb-false, leb-true}
 use Rattle.base.specs.Columns.{named}
-use Rattle.numbers.specs.Groups.{Found, found, none, prefixed, numberFrom, numberAt}
+use Rattle.base.proofs.Cases.{cond-either}
+use Rattle.numbers.specs.Groups.{Found, found, none, numberAt}
+use Rattle.sensor.specs.Columns.{sensorMasks}
+use Rattle.token_reader.specs.Read.{mostTokenBytes}
+use Rattle.band.specs.Sets.{bandMasks}
 use Rattle.drive.specs.Events.{Event, geometry, transfer}
 use Rattle.script.specs.Fields.{
   Parsed,
@@ -35,13 +39,10 @@ use Rattle.script.specs.Fields.{
   ofKind,
   eventAt,
 }
+use Rattle.script.proofs.Bounds.{NumberIn, number-either, number-at, number-here}
 use Rattle.script.proofs.Chains.{threeAt}
 
 -- what was found ends between two places
-
-abbrev pub NumberIn : ℕ → ℕ → Found → Type 0
-NumberIn a z (found v n) = (a ≤ n) × (n ≤ z)
-NumberIn a z none = Unit {0}
 
 abbrev StretchIn : ℕ → ℕ → Stretch → Type 0
 StretchIn a z (stretch start count n) = (a ≤ n) × (n ≤ z)
@@ -52,54 +53,15 @@ EventIn a z (event e n) = (a ≤ n) × (n ≤ z)
 EventIn a z broken = Unit {0}
 
 -- either arm of a test
-number-either : (a z : ℕ) (b : Bool) (x y : Found) → NumberIn a z x → NumberIn a z y → NumberIn a z (cond b x y)
-number-either a z true x y p q = p
-number-either a z false x y p q = q
-
 stretch-either : (a z : ℕ) (b : Bool) (x y : Stretch) → StretchIn a z x → StretchIn a z y → StretchIn a z (cond b x y)
-stretch-either a z true x y p q = p
-stretch-either a z false x y p q = q
+stretch-either a z b x y p q = cond-either (StretchIn a z) b x y (λ e. p) (λ e. q)
 
 event-either : (a z : ℕ) (b : Bool) (x y : Parsed) → EventIn a z x → EventIn a z y → EventIn a z (cond b x y)
-event-either a z true x y p q = p
-event-either a z false x y p q = q
+event-either a z b x y p q = cond-either (EventIn a z) b x y (λ e. p) (λ e. q)
 
 event-later : (a b z : ℕ) (p : Parsed) → a ≤ b → EventIn b z p → EventIn a z p
 event-later a b z (event e n) h k = (omega (arith, h, k .0), k .1)
 event-later a b z broken h k = tt
-
--- a number takes at least one byte
-
-prefix-from : (a z b : ℕ) (f : Found) → NumberIn a z f → NumberIn a z (prefixed b f)
-prefix-from a z b (found v n) h =
-    number-either a z (eqb v 0) none _ tt (number-either a z (ltb v 144115188075855872) (found (b % 128 + 128 * v) n) none h tt)
-prefix-from a z b none h = tt
-
-number-later : (a b y z : ℕ) (f : Found) → a ≤ b → y ≤ z → NumberIn b y f → NumberIn a z f
-number-later a b y z (found v n) h l k = (omega (arith, h, k .0), omega (arith, l, k .1))
-number-later a b y z none h l k = tt
-
-number-past : (at : ℕ) (bytes : List ℕ) → NumberIn (at + 1) (at + length bytes) (numberFrom at bytes)
-unfolding numberFrom
-number-past at [] = tt
-number-past at (b ∷ bytes) =
-    number-either (at + 1) (at + suc (length bytes)) (ltb b 128) (found b (at + 1)) _ (omega arith, omega arith)
-    (prefix-from (at + 1) (at + suc (length bytes)) b (numberFrom (at + 1) bytes)
-    (number-later (at + 1) (at + 1 + 1) (at + 1 + length bytes) (at + suc (length bytes)) (numberFrom (at + 1) bytes) (omega arith) (omega arith)
-    (number-past (at + 1) bytes)))
-
-pub number-at : (s : List ℕ) (at : ℕ) → NumberIn (at + 1) (length s) (numberAt s at)
-unfolding numberFrom
-number-at s at = go (ltb (length s) at) refl
-  where
-    go : (t : Bool) → ltb (length s) at ≡ t → NumberIn (at + 1) (length s) (numberAt s at)
-    go true p = let h = ltb-true (length s) at p in let l : length s ≤ at = omega (arith, h) in rw (drop-of-length-le s l) tt
-    go false p =
-        let h = ltb-false (length s) at p in
-        number-later (at + 1) (at + 1) (at + length (drop at s)) (length s) (numberAt s at) (omega arith) (omega (arith, h, length-drop at s)) (number-past at (drop at s))
-
-number-here : (s : List ℕ) (at : ℕ) → NumberIn at (length s) (numberAt s at)
-number-here s at = number-later at (at + 1) (length s) (length s) (numberAt s at) (omega arith) (omega arith) (number-at s at)
 
 column-at : (s : List ℕ) (at mask bit : ℕ) → at ≤ length s → NumberIn at (length s) (columnAt s at mask bit)
 column-at s at mask bit h = number-either at (length s) (named bit mask) (numberAt s at) (found 0 at) (number-here s at) (omega arith, h)
@@ -112,7 +74,7 @@ on-field a z none k h c = tt
 
 stretch-at : (s : List ℕ) (at : ℕ) (f : Found) → NumberIn at (length s) f → StretchIn at (length s) (stretchAt s f)
 stretch-at s at (found size n) h =
-    stretch-either at (length s) (leb size 1024) _ cut (stretch-either at (length s) (leb n (length s)) _ cut (go (leb size (length s - n)) refl) tt) tt
+    stretch-either at (length s) (leb size mostTokenBytes) _ cut (go (leb size (length s - n)) refl) tt
   where
     go : (t : Bool) → leb size (length s - n) ≡ t → StretchIn at (length s) (cond t (stretch n size (n + size)) cut)
     go true p = (omega (arith, h .0), omega (arith, h .1, leb-true size (length s - n) p))
@@ -176,20 +138,20 @@ on-five s at mask h k g =
 
 -- a row and its mask, and what follows where no bit of the mask is unknown
 on-set : (s : List ℕ) (at most : ℕ) (k : ℕ → ℕ → ℕ → Parsed) → ((row mask n : ℕ) → n ≤ length s → EventIn n (length s) (k row mask n))
-    → EventIn (at + 1) (length s) (field (numberAt s at) (λ row at. field (numberAt s at) (λ mask at. cond (leb mask most) (k row mask at) broken)))
+    → EventIn (at + 1) (length s) (field (numberAt s at) (λ row at. field (numberAt s at) (λ mask at. cond (ltb mask most) (k row mask at) broken)))
 on-set s at most k c =
-    on-first s at _ (λ row a ha. on-number s a _ (λ mask b hb. event-either b (length s) (leb mask most) (k row mask b) broken (c row mask b hb) tt))
+    on-first s at _ (λ row a ha. on-number s a _ (λ mask b hb. event-either b (length s) (ltb mask most) (k row mask b) broken (c row mask b hb) tt))
 
 from-sensor-set : (s : List ℕ) (at : ℕ) → EventIn (at + 1) (length s) (sensorSetAt s at)
 unfolding sensorSetAt
 from-sensor-set s at =
-    on-set s at 127 _ (λ _ m b hb. on-five s b m hb _ (λ _ _ _ _ _ g hg.
+    on-set s at sensorMasks _ (λ _ m b hb. on-five s b m hb _ (λ _ _ _ _ _ g hg.
     on-column s g m 32 hg _ (λ _ h hh. on-column s h m 64 hh _ (λ _ i hi. last i (length s) hi))))
 
 from-band-set : (s : List ℕ) (at : ℕ) → EventIn (at + 1) (length s) (bandSetAt s at)
 unfolding bandSetAt
 from-band-set s at =
-    on-set s at 63 _ (λ _ m b hb. on-five s b m hb _ (λ _ _ _ _ _ g hg.
+    on-set s at bandMasks _ (λ _ m b hb. on-five s b m hb _ (λ _ _ _ _ _ g hg.
     on-tokens s g (length s) (expressionAt s g m) _ (expression-at s g m hg) (λ _ h hh. last h (length s) hh)))
 
 of-kind : (kind : ℕ) (s : List ℕ) (at : ℕ) → EventIn (at + 1) (length s) (ofKind kind s at)

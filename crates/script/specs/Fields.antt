@@ -1,11 +1,14 @@
 -- Document 01, 'Script': the events and their fields, each read at its place.
 use Prim.Native.Nat.{ℕ, _+_, _-_}
 use mathlib.Core.Bool.{cond}
-use mathlib.Core.List.{List, []}
-use lib.Dec.{eqb, leb}
+use mathlib.Core.List.{List, [], _∷_}
+use lib.Dec.{eqb, leb, ltb}
 use lib.ListN.{length, take, drop}
 use Rattle.base.specs.Columns.{named}
 use Rattle.numbers.specs.Groups.{Found, found, none, numberAt}
+use Rattle.sensor.specs.Columns.{sensorMasks}
+use Rattle.token_reader.specs.Read.{mostTokenBytes}
+use Rattle.band.specs.Sets.{bandMasks}
 use Rattle.drive.specs.Events.{Event, reading, elapse, reset, sensorSet, bandSet, geometry, transfer, eventOf}
 use Rattle.script.specs.declared.EventRead.{EventRead}
 use Rattle.script.specs.declared.EventRead.the-variants as R
@@ -52,7 +55,7 @@ unfoldable pub sensorSetAt : List ℕ → ℕ → Parsed
 sensorSetAt s at =
     field (numberAt s at) (λ sensor at.
     field (numberAt s at) (λ mask at.
-    cond (leb mask 127)
+    cond (ltb mask sensorMasks)
     (firstColumnsAt s at mask (λ enabled on-threshold on-fraction on-timeout off-threshold at.
     field (columnAt s at mask 32) (λ off-fraction at.
     field (columnAt s at mask 64) (λ off-timeout at.
@@ -74,7 +77,7 @@ pub data Stretch : Type 0 where
   cut : Stretch
 
 abbrev pub stretchAt : List ℕ → Found → Stretch
-stretchAt s (found size at) = cond (leb size 1024) (cond (leb at (length s)) (cond (leb size (length s - at)) (stretch at size (at + size)) cut) cut) cut
+stretchAt s (found size at) = cond (leb size mostTokenBytes) (cond (leb size (length s - at)) (stretch at size (at + size)) cut) cut
 stretchAt s none = cut
 
 abbrev pub expressionAt : List ℕ → ℕ → ℕ → Stretch
@@ -93,7 +96,7 @@ unfoldable pub bandSetAt : List ℕ → ℕ → Parsed
 bandSetAt s at =
     field (numberAt s at) (λ band at.
     field (numberAt s at) (λ mask at.
-    cond (leb mask 63)
+    cond (ltb mask bandMasks)
     (firstColumnsAt s at mask (λ read-lock-enabled write-lock-enabled read-locked write-locked lock-on-reset at.
     fieldTokens s (expressionAt s at mask) (λ tokens at.
     event (bandSet band (record {
@@ -136,3 +139,16 @@ eventAt s at = field (numberAt s at) (λ kind at. ofKind kind s at)
 abbrev pub parsedIn : List ℕ → EventRead → Parsed
 parsedIn s (R.Is kind start count next) = event (eventOf kind (tokensAt s start count)) next
 parsedIn s R.Bad = broken
+
+-- the events from a place on, or the place at which the first failing event starts
+pub data Events : Type 0 where
+  events : List Event → Events
+  badFrom : (place : ℕ) → Events
+
+abbrev pub before : Event → Events → Events
+before e (events es) = events (e ∷ es)
+before e (badFrom place) = badFrom place
+
+abbrev pub andThen : ℕ → Parsed → (ℕ → Events) → Events
+andThen at (event e next) follow = before e (follow next)
+andThen at broken follow = badFrom at

@@ -1,13 +1,15 @@
 -- Document 01, 'Script': a script as a whole, its header and its events, or the place of what is bad.
-use Prim.Native.Nat.{ℕ, zero, suc, _-_}
+use Prim.Native.Nat.{ℕ}
+use mathlib.Core.Path.{_≡_}
 use mathlib.Core.Bool.{cond}
-use mathlib.Core.List.{List, [], _∷_}
+use mathlib.Core.List.{List, []}
 use lib.Dec.{ltb}
 use lib.ListN.{length}
 use Rattle.numbers.specs.Groups.{Found, found, none, numberAt}
 use Rattle.drive.specs.State.{headerFits}
 use Rattle.drive.specs.Events.{Event}
-use Rattle.script.specs.Fields.{Parsed, event, broken, eventAt}
+use Rattle.script.specs.Fields.{Events, events, badFrom, andThen, eventAt}
+use Rattle.script.specs.Parts.{eventsFrom}
 use Rattle.script.specs.declared.HeaderRead.{HeaderRead}
 use Rattle.script.specs.declared.HeaderRead.the-variants as H
 use Rattle.script.specs.declared.Checked.{Checked}
@@ -32,31 +34,19 @@ abbrev pub headerIn : HeaderRead → Header
 headerIn (H.Is capacity bands sensors next) = header capacity bands sensors next
 headerIn H.Bad = noHeader
 
--- the events from a place on, or the place at which the first failing event starts
-pub data Events : Type 0 where
-  events : List Event → Events
-  badFrom : (place : ℕ) → Events
-
-abbrev pub before : Event → Events → Events
-before e (events es) = events (e ∷ es)
-before e (badFrom place) = badFrom place
-
-abbrev pub andThen : ℕ → Parsed → (ℕ → Events) → Events
-andThen at (event e next) follow = before e (follow next)
-andThen at broken follow = badFrom at
-
--- an event takes at least one byte, so there are no more of them than bytes
-unfoldable pub eventsIn : ℕ → List ℕ → ℕ → Events
-eventsIn zero s at = events []
-eventsIn (suc k) s at = cond (ltb at (length s)) (andThen at (eventAt s at) (λ next. eventsIn k s next)) (events [])
-
-unfoldable pub eventsFrom : List ℕ → ℕ → Events
-eventsFrom s at = eventsIn (length s - at) s at
+-- The events from a place on are those that read one after the other up to the script's end: this equation determines them, since each
+-- event takes at least one byte (`reads-on` in proofs/Checking).
+abbrev pub ReadsOn : Type 0
+ReadsOn = (s : List ℕ) (at : ℕ) → eventsFrom s at ≡ cond (ltb at (length s)) (andThen at (eventAt s at) (λ next. eventsFrom s next)) (events [])
 
 -- a script that reads to its end, or the place of what is bad: "0 for the header". "An overlong script is tested first and has place 0."
 pub data Script : Type 0 where
   accepted : (capacity bands sensors : ℕ) → List Event → Script
   bad : (place : ℕ) → Script
+
+-- "a script above 65,536 bytes" is bad
+abbrev pub mostScriptBytes : ℕ
+mostScriptBytes = 65536
 
 abbrev pub withEvents : ℕ → ℕ → ℕ → Events → Script
 withEvents capacity bands sensors (events es) = accepted capacity bands sensors es
@@ -67,7 +57,7 @@ withHeader s (header capacity bands sensors next) = withEvents capacity bands se
 withHeader s noHeader = bad 0
 
 unfoldable pub readScript : List ℕ → Script
-readScript s = cond (ltb 65536 (length s)) (bad 0) (withHeader s (headerAt s))
+readScript s = cond (ltb mostScriptBytes (length s)) (bad 0) (withHeader s (headerAt s))
 
 -- what the check tells: how many events there are, or the place
 

@@ -44,10 +44,8 @@ pub enum Checked {
     BadAt(usize),
 }
 
-// The most bytes of a script, and of an expression.
+// The most bytes of a script.
 pub const MOST_BYTES: usize = 65_536;
-
-pub const MOST_TOKENS: u64 = 1_024;
 
 // The column of a bit, where the mask names it; else 0, which takes no bytes.
 fn column_at(script: &[u8], at: usize, mask: u64, bit: u64) -> Number
@@ -121,7 +119,7 @@ fn sensor_set_at(script: &[u8], at: usize) -> EventRead
     let Number::Is(mask, at2) = numbers::number_at(script, at1) else {
         return EventRead::Bad;
     };
-    if 127 < mask {
+    if SensorColumns::MASKS <= mask {
         return EventRead::Bad;
     }
     let FirstColumns::Is(first, second, third, fourth, fifth, at3) = first_columns_at(script, at2, mask) else {
@@ -154,7 +152,8 @@ fn expression_at(script: &[u8], at: usize, mask: u64) -> BytesRead
         let Number::Is(size, at1) = numbers::number_at(script, at) else {
             return BytesRead::Bad;
         };
-        if MOST_TOKENS < size {
+        let most = token_reader::MOST_BYTES as u64;
+        if most < size {
             return BytesRead::Bad;
         }
         if script.len() < at1 {
@@ -178,7 +177,7 @@ fn band_set_at(script: &[u8], at: usize) -> EventRead
     let Number::Is(mask, at2) = numbers::number_at(script, at1) else {
         return EventRead::Bad;
     };
-    if 63 < mask {
+    if BandColumns::MASKS <= mask {
         return EventRead::Bad;
     }
     let FirstColumns::Is(first, second, third, fourth, fifth, at3) = first_columns_at(script, at2, mask) else {

@@ -16,11 +16,15 @@ greatestNumber = 4294967295
 abbrev pub greatestFraction : ℕ
 greatestFraction = 999
 
+-- the masks of seven bits are those below
+abbrev pub sensorMasks : ℕ
+sensorMasks = 128
+
 -- Every bit of the mask is one of the seven, and every named value is in its range.
 unfoldable pub columnsFit : SensorColumns → Bool
 columnsFit c =
     let m = c .mask in
-    ltb m 128
+    ltb m sensorMasks
     && (within 1 (named 1 m) (c .enabled)
     && (within greatestNumber (named 2 m) (c .«on_threshold»)
     && (within greatestFraction (named 4 m) (c .«on_fraction»)

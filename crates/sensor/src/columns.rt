@@ -23,33 +23,41 @@ pub struct SensorColumns {
 }
 
 impl SensorColumns {
+    // The masks of seven bits are those below.
+    pub const MASKS: u64 = 128;
+
+    // The greatest threshold or timeout, and the greatest fraction.
+    pub const NUMBER: u64 = 4_294_967_295;
+
+    pub const FRACTION: u64 = 999;
+
     // Whether every bit of the mask is known and every named value is in its range.
     pub fn fit(self) -> bool
         ensures { λ r. ⌜ r ≡ columnsFit self ⌝ }
     {
         let mask = self.mask;
-        if 128 <= mask {
+        if SensorColumns::MASKS <= mask {
             return false;
         }
         if !in_range(mask, 1, self.enabled, 1) {
             return false;
         }
-        if !in_range(mask, 2, self.on_threshold, 4_294_967_295) {
+        if !in_range(mask, 2, self.on_threshold, SensorColumns::NUMBER) {
             return false;
         }
-        if !in_range(mask, 4, self.on_fraction, 999) {
+        if !in_range(mask, 4, self.on_fraction, SensorColumns::FRACTION) {
             return false;
         }
-        if !in_range(mask, 8, self.on_timeout, 4_294_967_295) {
+        if !in_range(mask, 8, self.on_timeout, SensorColumns::NUMBER) {
             return false;
         }
-        if !in_range(mask, 16, self.off_threshold, 4_294_967_295) {
+        if !in_range(mask, 16, self.off_threshold, SensorColumns::NUMBER) {
             return false;
         }
-        if !in_range(mask, 32, self.off_fraction, 999) {
+        if !in_range(mask, 32, self.off_fraction, SensorColumns::FRACTION) {
             return false;
         }
-        in_range(mask, 64, self.off_timeout, 4_294_967_295)
+        in_range(mask, 64, self.off_timeout, SensorColumns::NUMBER)
     }
 }
 

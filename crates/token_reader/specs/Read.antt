@@ -8,7 +8,7 @@ use lib.ListN.{length, getD, drop}
 use Rattle.answer.specs.Numbers.{numberOf}
 use Rattle.expression.specs.declared.Element.{Element}
 use Rattle.expression.specs.declared.Expression.{Expression}
-use Rattle.expression.specs.Elements.{element, expressionOf}
+use Rattle.expression.specs.Elements.{mostElements, element, expressionOf}
 use Rattle.token_reader.specs.declared.Head.{Head}
 use Rattle.token_reader.specs.declared.Head.the-variants.{Is, Broken}
 use Rattle.token_reader.specs.declared.Tokens.{Tokens}
@@ -36,11 +36,14 @@ readElements (suc room) bytes = cond (isEnd bytes) (elements []) (andThen bytes 
 
 -- "F0, then the elements, then F1, then no more bytes." "0 to 32 elements."
 unfoldable pub readList : List ℕ → TokenOutcome
-readList bytes = cond (eqb (getD bytes 0 0) 0xF0) (readElements 32 (drop 1 bytes)) (refusal 3)
+readList bytes = cond (eqb (getD bytes 0 0) 0xF0) (readElements mostElements (drop 1 bytes)) (refusal 3)
 
 -- "more than 1,024 expression bytes gets 2"
+abbrev pub mostTokenBytes : ℕ
+mostTokenBytes = 1024
+
 unfoldable pub readTokens : List ℕ → TokenOutcome
-readTokens bytes = cond (ltb 1024 (length bytes)) (refusal 2) (readList bytes)
+readTokens bytes = cond (ltb mostTokenBytes (length bytes)) (refusal 2) (readList bytes)
 
 -- the number that an outcome has in the table of answers, and the expression that it hands back
 abbrev pub answerIn : TokenOutcome → ℕ

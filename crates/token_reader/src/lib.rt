@@ -141,7 +141,7 @@ fn read_list(bytes: &[u8]) -> Tokens
     let blank = Element {
         part: Part::Operator(0),
     };
-    let mut elements = [blank; 32];
+    let mut elements = [blank; Expression::ELEMENTS];
     let mut count = 0;
     let mut at = 1;
     loop {
@@ -155,7 +155,7 @@ fn read_list(bytes: &[u8]) -> Tokens
                 expression: Expression { elements, count },
             };
         }
-        if 32 <= count {
+        if Expression::ELEMENTS <= count {
             if bytes[at] == ELEMENT_START {
                 return refuse(Answer::TooLong);
             }

@@ -11,7 +11,7 @@ use Rattle.answer.specs.Numbers.{numberOf}
 use Rattle.expression.specs.declared.Part.{Part}
 use Rattle.expression.specs.declared.Part.the-variants.{Reference, Operator}
 use Rattle.expression.specs.declared.Element.{Element}
-use Rattle.expression.specs.Elements.{element}
+use Rattle.expression.specs.Elements.{mostElements, element}
 use Rattle.token_reader.specs.Format.{referencePrefix, operatorPrefix, widthOf}
 use Rattle.token_writer.specs.declared.Written.{Written}
 
@@ -56,7 +56,7 @@ neededFor (e ∷ es) = widthOf (e .part) + neededFor es
 -- 2, then 4, then 11 ("the token writer's output is shorter than needed")
 unfoldable pub writeAnswer : List ℕ → ℕ → ℕ
 writeAnswer codes room =
-    cond (codesFit codes) (cond (ltb 32 (length codes)) 4 (cond (ltb room (length (bytesOf (elementsOf codes)))) 11 0)) 2
+    cond (codesFit codes) (cond (ltb mostElements (length codes)) 4 (cond (ltb room (length (bytesOf (elementsOf codes)))) 11 0)) 2
 
 -- by the answer's number: the bytes from the start of the output and the rest as it was, or all as it was
 abbrev pub outputAfter : ℕ → List ℕ → List ℕ → List ℕ

@@ -150,7 +150,7 @@ pub fn write(codes: &[u64], out: &mut [u8]) -> Written
             count: 0,
         };
     }
-    if 32 < codes.len() {
+    if Expression::ELEMENTS < codes.len() {
         return Written {
             answer: Answer::TooLong,
             count: 0,
@@ -190,7 +190,7 @@ pub fn write_expression(expression: Expression, out: &mut [u8]) -> Written
     let elements = expression.elements;
     let list = codes(elements);
     let count = expression.count;
-    if count < 32 {
+    if count < Expression::ELEMENTS {
         return write(&list[..count], out);
     }
     write(&list, out)

@@ -27,8 +27,8 @@ sub-if4 c = search needs
 returns-4 : tie.Need-returns-4
 returns-4 c = search expression-cut
 
-add-t12 : tie.Need-add-t12
-add-t12 c = search needs
+add-t13 : tie.Need-add-t13
+add-t13 c = search needs
 
 returns-5 : tie.Need-returns-5
 returns-5 c = search expression-is
@@ -48,6 +48,6 @@ expression-at-spec =
     returns-3
     sub-if4
     returns-4
-    add-t12
+    add-t13
     returns-5
     returns-6)

@@ -7,8 +7,8 @@ use Rattle.script.proofs.reset_at.Tie as tie
 number-at-requires : tie.Need-number-at-requires
 number-at-requires c κs = search needs
 
-enum-known-kind : tie.Need-enum-known-kind
-enum-known-kind c = search needs
+enum-known-reset-type : tie.Need-enum-known-reset-type
+enum-known-reset-type c = search needs
 
 enum-told : tie.Need-enum-told
 enum-told c = search needs
@@ -22,4 +22,4 @@ unfolding resetAt
 returns-2 c = search fields depth 24 fits 4000
 
 pub reset-at-spec : {M : Type 1} → statement M
-reset-at-spec = tie.close (tie.spec number-at-requires enum-known-kind enum-told returns returns-2)
+reset-at-spec = tie.close (tie.spec number-at-requires enum-known-reset-type enum-told returns returns-2)

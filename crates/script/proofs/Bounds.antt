@@ -1,0 +1,52 @@
+-- A number ends after the place at which it starts, and within the script.
+use mathlib.Core.Path.{_≡_, refl}
+use Prim.Native.Nat.{ℕ, suc, _+_, _*_, _%_, _≤_}
+use native.Mathlib.Omega.{arith}
+use mathlib.Core.List.{List, [], _∷_}
+use mathlib.Core.Bool.{Bool, true, false, cond}
+use lib.Dec.{eqb, ltb}
+use lib.ListN.{length, drop, drop-of-length-le, length-drop}
+use borrow.Author.Tests.{ltb-true, ltb-false}
+use Rattle.base.proofs.Cases.{cond-either}
+use Rattle.numbers.specs.Groups.{Found, found, none, prefixed, numberFrom, numberAt}
+
+-- what was found ends between two places
+abbrev pub NumberIn : ℕ → ℕ → Found → Type 0
+NumberIn a z (found v n) = (a ≤ n) × (n ≤ z)
+NumberIn a z none = Unit {0}
+
+pub number-either : (a z : ℕ) (b : Bool) (x y : Found) → NumberIn a z x → NumberIn a z y → NumberIn a z (cond b x y)
+number-either a z b x y p q = cond-either (NumberIn a z) b x y (λ e. p) (λ e. q)
+
+-- a number takes at least one byte
+
+prefix-from : (a z b : ℕ) (f : Found) → NumberIn a z f → NumberIn a z (prefixed b f)
+prefix-from a z b (found v n) h =
+    number-either a z (eqb v 0) none _ tt (number-either a z (ltb (b % 128 + 128 * v) 18446744073709551616) (found (b % 128 + 128 * v) n) none h tt)
+prefix-from a z b none h = tt
+
+number-later : (a b y z : ℕ) (f : Found) → a ≤ b → y ≤ z → NumberIn b y f → NumberIn a z f
+number-later a b y z (found v n) h l k = (omega (arith, h, k .0), omega (arith, l, k .1))
+number-later a b y z none h l k = tt
+
+number-past : (at : ℕ) (bytes : List ℕ) → NumberIn (at + 1) (at + length bytes) (numberFrom at bytes)
+unfolding numberFrom
+number-past at [] = tt
+number-past at (b ∷ bytes) =
+    number-either (at + 1) (at + suc (length bytes)) (ltb b 128) (found b (at + 1)) _ (omega arith, omega arith)
+    (prefix-from (at + 1) (at + suc (length bytes)) b (numberFrom (at + 1) bytes)
+    (number-later (at + 1) (at + 1 + 1) (at + 1 + length bytes) (at + suc (length bytes)) (numberFrom (at + 1) bytes) (omega arith) (omega arith)
+    (number-past (at + 1) bytes)))
+
+pub number-at : (s : List ℕ) (at : ℕ) → NumberIn (at + 1) (length s) (numberAt s at)
+unfolding numberFrom
+number-at s at = go (ltb (length s) at) refl
+  where
+    go : (t : Bool) → ltb (length s) at ≡ t → NumberIn (at + 1) (length s) (numberAt s at)
+    go true p = let h = ltb-true (length s) at p in let l : length s ≤ at = omega (arith, h) in rw (drop-of-length-le s l) tt
+    go false p =
+        let h = ltb-false (length s) at p in
+        number-later (at + 1) (at + 1) (at + length (drop at s)) (length s) (numberAt s at) (omega arith) (omega (arith, h, length-drop at s)) (number-past at (drop at s))
+
+pub number-here : (s : List ℕ) (at : ℕ) → NumberIn at (length s) (numberAt s at)
+number-here s at = number-later at (at + 1) (length s) (length s) (numberAt s at) (omega arith) (omega arith) (number-at s at)
