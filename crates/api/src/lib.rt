@@ -184,26 +184,43 @@ fn kind_of(kind: u64, fields: &[u64]) -> Kind
     let second = field(fields, 1);
     let third = field(fields, 2);
     if kind == 1 {
-        return Kind::Reading(first, second);
+        return Kind::Reading {
+            sensor: first,
+            value: second,
+        };
     }
     if kind == 2 {
-        return Kind::Elapse(first);
+        return Kind::Elapse { ticks: first };
     }
     if kind == 3 {
-        return Kind::Reset(first);
+        return Kind::Reset { reset_type: first };
     }
     if kind == 4 {
         let columns = sensor_columns(fields);
-        return Kind::SensorSet(first, columns);
+        return Kind::SensorSet {
+            sensor: first,
+            columns,
+        };
     }
     if kind == 5 {
         let columns = band_columns(fields);
-        return Kind::BandSet(first, columns);
+        return Kind::BandSet {
+            band: first,
+            columns,
+        };
     }
     if kind == 6 {
-        return Kind::Geometry(first, second, third);
+        return Kind::Geometry {
+            band: first,
+            start: second,
+            length: third,
+        };
     }
-    Kind::Transfer(first, second, third)
+    Kind::Transfer {
+        direction: first,
+        start: second,
+        count: third,
+    }
 }
 
 // One event on the drive that a script leaves, by way of lent memory: a byte for each of the script's events in two buffers.

@@ -39,20 +39,35 @@ pub struct Fresh {
 
 // An event without its expression bytes, which go beside it.
 pub enum Kind {
-    // sensor, value
-    Reading(u64, u64),
-    // ticks
-    Elapse(u64),
-    // type
-    Reset(u64),
-    // sensor, columns
-    SensorSet(u64, SensorColumns),
-    // band, columns
-    BandSet(u64, BandColumns),
-    // band, start, length
-    Geometry(u64, u64, u64),
-    // direction, start, count
-    Transfer(u64, u64, u64),
+    Reading {
+        sensor: u64,
+        value: u64,
+    },
+    Elapse {
+        ticks: u64,
+    },
+    Reset {
+        reset_type: u64,
+    },
+    SensorSet {
+        sensor: u64,
+        columns: SensorColumns,
+    },
+    BandSet {
+        band: u64,
+        columns: BandColumns,
+    },
+    Geometry {
+        band: u64,
+        start: u64,
+        length: u64,
+    },
+    // 0 read or 1 write
+    Transfer {
+        direction: u64,
+        start: u64,
+        count: u64,
+    },
 }
 
 // What an event hands back. There are no stops but those of an elapse.

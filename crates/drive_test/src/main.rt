@@ -113,7 +113,13 @@ fn run_from(script: &[u8], start: usize, fresh: Drive) -> Drive {
     let mut drive = fresh;
     let mut at = start;
     for index in 0..256 {
-        let EventRead::Is(kind, place, size, next) = reader::next_event(script, at) else {
+        let EventRead::Is {
+            kind,
+            start: place,
+            count: size,
+            next,
+        } = reader::next_event(script, at)
+        else {
             return drive;
         };
         let tokens = script::tokens_at(script, place, size);
@@ -125,7 +131,13 @@ fn run_from(script: &[u8], start: usize, fresh: Drive) -> Drive {
 
 fn case(number: usize, script: &[u8]) {
     title(number);
-    let HeaderRead::Is(capacity, bands, sensors, at) = script::header_at(script) else {
+    let HeaderRead::Is {
+        capacity,
+        bands,
+        sensors,
+        next: at,
+    } = script::header_at(script)
+    else {
         return;
     };
     let fresh = Drive::fresh(capacity, bands, sensors);
@@ -167,25 +179,129 @@ fn sensor_set(mask: u64, value: u64) -> SensorColumns {
 
 // Unknown mask bits, on a row that is there and on one that is not, and values that the mask does not name.
 fn unknown_bits(drive: Drive) -> Drive {
-    let d = after(drive, 0, Kind::BandSet(0, set(64, 0)), b"");
-    let d = after(d, 1, Kind::BandSet(0, set(MOST, 1)), b"\xF0\xF1");
-    let d = after(d, 2, Kind::BandSet(1, set(64, 0)), b"");
-    let d = after(d, 3, Kind::SensorSet(0, sensor_set(128, 1)), b"");
-    let d = after(d, 4, Kind::SensorSet(1, sensor_set(128, 1)), b"");
-    let d = after(d, 5, Kind::SensorSet(0, sensor_set(0, MOST)), b"");
-    after(d, 6, Kind::BandSet(0, set(0, MOST)), b"\xF0")
+    let d = after(
+        drive,
+        0,
+        Kind::BandSet {
+            band: 0,
+            columns: set(64, 0),
+        },
+        b"",
+    );
+    let d = after(
+        d,
+        1,
+        Kind::BandSet {
+            band: 0,
+            columns: set(MOST, 1),
+        },
+        b"\xF0\xF1",
+    );
+    let d = after(
+        d,
+        2,
+        Kind::BandSet {
+            band: 1,
+            columns: set(64, 0),
+        },
+        b"",
+    );
+    let d = after(
+        d,
+        3,
+        Kind::SensorSet {
+            sensor: 0,
+            columns: sensor_set(128, 1),
+        },
+        b"",
+    );
+    let d = after(
+        d,
+        4,
+        Kind::SensorSet {
+            sensor: 1,
+            columns: sensor_set(128, 1),
+        },
+        b"",
+    );
+    let d = after(
+        d,
+        5,
+        Kind::SensorSet {
+            sensor: 0,
+            columns: sensor_set(0, MOST),
+        },
+        b"",
+    );
+    after(
+        d,
+        6,
+        Kind::BandSet {
+            band: 0,
+            columns: set(0, MOST),
+        },
+        b"\xF0",
+    )
 }
 
 // More than 1,024 token bytes, named or not; then as many as there may be.
 fn many_bytes(drive: Drive) -> Drive {
     let more = [0xF0; 1_025];
     let most = [0xF0; 1_024];
-    let d = after(drive, 7, Kind::BandSet(0, set(33, 1)), &more);
-    let d = after(d, 8, Kind::BandSet(0, set(1, 1)), &more);
-    let d = after(d, 9, Kind::BandSet(0, set(0, 0)), &more);
-    let d = after(d, 10, Kind::BandSet(1, set(32, 0)), &more);
-    let d = after(d, 11, Kind::BandSet(0, set(37, 1)), &most);
-    after(d, 12, Kind::BandSet(0, set(8, 1)), &most)
+    let d = after(
+        drive,
+        7,
+        Kind::BandSet {
+            band: 0,
+            columns: set(33, 1),
+        },
+        &more,
+    );
+    let d = after(
+        d,
+        8,
+        Kind::BandSet {
+            band: 0,
+            columns: set(1, 1),
+        },
+        &more,
+    );
+    let d = after(
+        d,
+        9,
+        Kind::BandSet {
+            band: 0,
+            columns: set(0, 0),
+        },
+        &more,
+    );
+    let d = after(
+        d,
+        10,
+        Kind::BandSet {
+            band: 1,
+            columns: set(32, 0),
+        },
+        &more,
+    );
+    let d = after(
+        d,
+        11,
+        Kind::BandSet {
+            band: 0,
+            columns: set(37, 1),
+        },
+        &most,
+    );
+    after(
+        d,
+        12,
+        Kind::BandSet {
+            band: 0,
+            columns: set(8, 1),
+        },
+        &most,
+    )
 }
 
 fn outside_a_script() {
@@ -223,12 +339,64 @@ fn headers() {
 fn least_drive() {
     let fresh = Drive::fresh(1_000, 17, 2);
     let drive = fresh.drive;
-    let d = after(drive, 0, Kind::Reading(0, 0), b"");
-    let d = after(d, 1, Kind::Geometry(1, 0, 0), b"");
-    let d = after(d, 2, Kind::BandSet(0, set(36, 1)), &ALWAYS);
-    let d = after(d, 3, Kind::Transfer(0, 0, 1), b"");
-    let d = after(d, 4, Kind::Transfer(0, 1, 0), b"");
-    let d = after(d, 5, Kind::Transfer(0, 0, 2), b"");
+    let d = after(
+        drive,
+        0,
+        Kind::Reading {
+            sensor: 0,
+            value: 0,
+        },
+        b"",
+    );
+    let d = after(
+        d,
+        1,
+        Kind::Geometry {
+            band: 1,
+            start: 0,
+            length: 0,
+        },
+        b"",
+    );
+    let d = after(
+        d,
+        2,
+        Kind::BandSet {
+            band: 0,
+            columns: set(36, 1),
+        },
+        &ALWAYS,
+    );
+    let d = after(
+        d,
+        3,
+        Kind::Transfer {
+            direction: 0,
+            start: 0,
+            count: 1,
+        },
+        b"",
+    );
+    let d = after(
+        d,
+        4,
+        Kind::Transfer {
+            direction: 0,
+            start: 1,
+            count: 0,
+        },
+        b"",
+    );
+    let d = after(
+        d,
+        5,
+        Kind::Transfer {
+            direction: 0,
+            start: 0,
+            count: 2,
+        },
+        b"",
+    );
     end(d);
 }
 

@@ -228,12 +228,20 @@ pub fn apply(drive: Drive, kind: Kind, tokens: &[u8]) -> Reply
     ensures { λ r. ⌜ Replies drive (eventOf kind (now (tokens .entry))) r ⌝ }
 {
     match kind {
-        Kind::Reading(sensor, value) => reading(drive, sensor, value),
-        Kind::Elapse(ticks) => elapse(drive, ticks),
-        Kind::Reset(reset_type) => reset(drive, reset_type),
-        Kind::SensorSet(sensor, columns) => set_sensor(drive, sensor, columns),
-        Kind::BandSet(band, columns) => set_band(drive, band, columns, tokens),
-        Kind::Geometry(band, start, length) => set_geometry(drive, band, start, length),
-        Kind::Transfer(direction, start, count) => transfer(drive, direction, start, count),
+        Kind::Reading { sensor, value } => reading(drive, sensor, value),
+        Kind::Elapse { ticks } => elapse(drive, ticks),
+        Kind::Reset { reset_type } => reset(drive, reset_type),
+        Kind::SensorSet { sensor, columns } => set_sensor(drive, sensor, columns),
+        Kind::BandSet { band, columns } => set_band(drive, band, columns, tokens),
+        Kind::Geometry {
+            band,
+            start,
+            length,
+        } => set_geometry(drive, band, start, length),
+        Kind::Transfer {
+            direction,
+            start,
+            count,
+        } => transfer(drive, direction, start, count),
     }
 }

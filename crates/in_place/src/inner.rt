@@ -214,7 +214,13 @@ pub fn run_events(
     let mut at = start;
     let mut i = 0;
     while i < count {
-        let EventRead::Is(kind, place, size, next) = reader::next_event(script, at) else {
+        let EventRead::Is {
+            kind,
+            start: place,
+            count: size,
+            next,
+        } = reader::next_event(script, at)
+        else {
             return drive;
         };
         at = next;
@@ -224,7 +230,7 @@ pub fn run_events(
         let mut due = false;
         let mut locking = NO_RESET;
         match kind {
-            Kind::Reading(sensor, value) => {
+            Kind::Reading { sensor, value } => {
                 if drive::no_row(drive.sensor_count, sensor) {
                     number = 1;
                 } else {
@@ -237,7 +243,7 @@ pub fn run_events(
                     due = r.turned;
                 }
             }
-            Kind::Elapse(ticks) => {
+            Kind::Elapse { ticks } => {
                 let all = drive.sensors;
                 if by_stops(any_open, all, ticks) {
                     let elapsed = elapse::elapse(drive, ticks as u32);
@@ -253,7 +259,7 @@ pub fn run_events(
                     ended = passed.stops;
                 }
             }
-            Kind::Reset(kind) => {
+            Kind::Reset { reset_type: kind } => {
                 number = reset_number(kind);
                 due = true;
                 locking = kind;
@@ -263,7 +269,7 @@ pub fn run_events(
                     drive.sensors = after;
                 }
             }
-            Kind::SensorSet(sensor, columns) => {
+            Kind::SensorSet { sensor, columns } => {
                 if drive::no_row(drive.sensor_count, sensor) {
                     number = 1;
                 } else {
@@ -276,7 +282,7 @@ pub fn run_events(
                     due = r.turned;
                 }
             }
-            Kind::BandSet(band, columns) => {
+            Kind::BandSet { band, columns } => {
                 if drive::no_row(drive.band_count, band) {
                     number = 1;
                 } else {
@@ -291,7 +297,11 @@ pub fn run_events(
                     any_open = either(any_open, r.is_open);
                 }
             }
-            Kind::Geometry(band, first, length) => {
+            Kind::Geometry {
+                band,
+                start: first,
+                length,
+            } => {
                 let spans = drive.spans;
                 let r = geometry::place(
                     drive.capacity,
@@ -306,7 +316,11 @@ pub fn run_events(
                 let answer = r.answer;
                 number = answer.number();
             }
-            Kind::Transfer(direction, first, blocks) => {
+            Kind::Transfer {
+                direction,
+                start: first,
+                count: blocks,
+            } => {
                 let rows = drive.rows;
                 let closed = bands::closed_sides(rows, drive::side(direction));
                 let spans = drive.spans;

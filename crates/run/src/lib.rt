@@ -57,7 +57,13 @@ fn run_first(script: &[u8], count: usize, answers: &mut [u8], stops: &mut [u8]) 
     if stops.len() < count {
         return refused(Answer::ShortBuffer, 0);
     }
-    let HeaderRead::Is(capacity, bands, sensors, at) = script::header_at(script) else {
+    let HeaderRead::Is {
+        capacity,
+        bands,
+        sensors,
+        next: at,
+    } = script::header_at(script)
+    else {
         return refused(Answer::BadScript, 0);
     };
     let made = Drive::fresh(capacity, bands, sensors);

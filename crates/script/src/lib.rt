@@ -16,7 +16,12 @@ use sensor::SensorColumns;
 
 // What reading at a place finds: an event, where its expression's bytes start and how many they are, and the place after it.
 pub enum EventRead {
-    Is(Kind, usize, usize, usize),
+    Is {
+        kind: Kind,
+        start: usize,
+        count: usize,
+        next: usize,
+    },
     Bad,
 }
 
@@ -34,7 +39,12 @@ pub enum FirstColumns {
 
 // A header in range, and the place after it.
 pub enum HeaderRead {
-    Is(u64, u64, u64, usize),
+    Is {
+        capacity: u64,
+        bands: u64,
+        sensors: u64,
+        next: usize,
+    },
     Bad,
 }
 
@@ -67,7 +77,12 @@ fn reading_at(script: &[u8], at: usize) -> EventRead
     let Number::Is(value, at2) = numbers::number_at(script, at1) else {
         return EventRead::Bad;
     };
-    EventRead::Is(Kind::Reading(sensor, value), 0, 0, at2)
+    EventRead::Is {
+        kind: Kind::Reading { sensor, value },
+        start: 0,
+        count: 0,
+        next: at2,
+    }
 }
 
 fn elapse_at(script: &[u8], at: usize) -> EventRead
@@ -76,7 +91,12 @@ fn elapse_at(script: &[u8], at: usize) -> EventRead
     let Number::Is(ticks, at1) = numbers::number_at(script, at) else {
         return EventRead::Bad;
     };
-    EventRead::Is(Kind::Elapse(ticks), 0, 0, at1)
+    EventRead::Is {
+        kind: Kind::Elapse { ticks },
+        start: 0,
+        count: 0,
+        next: at1,
+    }
 }
 
 fn reset_at(script: &[u8], at: usize) -> EventRead
@@ -85,7 +105,12 @@ fn reset_at(script: &[u8], at: usize) -> EventRead
     let Number::Is(reset_type, at1) = numbers::number_at(script, at) else {
         return EventRead::Bad;
     };
-    EventRead::Is(Kind::Reset(reset_type), 0, 0, at1)
+    EventRead::Is {
+        kind: Kind::Reset { reset_type },
+        start: 0,
+        count: 0,
+        next: at1,
+    }
 }
 
 // The columns of bits 1 to 16, with which the values of either Set begin.
@@ -122,7 +147,11 @@ fn sensor_set_at(script: &[u8], at: usize) -> EventRead
     if SensorColumns::MASKS <= mask {
         return EventRead::Bad;
     }
-    let FirstColumns::Is(first, second, third, fourth, fifth, at3) = first_columns_at(script, at2, mask) else {
+    let FirstColumns::Is(first, second, third, fourth, fifth, at3) = first_columns_at(
+        script,
+        at2,
+        mask,
+    ) else {
         return EventRead::Bad;
     };
     let Number::Is(off_fraction, at4) = column_at(script, at3, mask, 32) else {
@@ -141,7 +170,12 @@ fn sensor_set_at(script: &[u8], at: usize) -> EventRead
         off_fraction,
         off_timeout,
     };
-    EventRead::Is(Kind::SensorSet(sensor, columns), 0, 0, at5)
+    EventRead::Is {
+        kind: Kind::SensorSet { sensor, columns },
+        start: 0,
+        count: 0,
+        next: at5,
+    }
 }
 
 // Where an expression's bytes stand, where the mask names it; else no bytes.
@@ -180,7 +214,11 @@ fn band_set_at(script: &[u8], at: usize) -> EventRead
     if BandColumns::MASKS <= mask {
         return EventRead::Bad;
     }
-    let FirstColumns::Is(first, second, third, fourth, fifth, at3) = first_columns_at(script, at2, mask) else {
+    let FirstColumns::Is(first, second, third, fourth, fifth, at3) = first_columns_at(
+        script,
+        at2,
+        mask,
+    ) else {
         return EventRead::Bad;
     };
     let BytesRead::Is(start, count, at4) = expression_at(script, at3, mask) else {
@@ -194,7 +232,12 @@ fn band_set_at(script: &[u8], at: usize) -> EventRead
         write_locked: fourth,
         lock_on_reset: fifth,
     };
-    EventRead::Is(Kind::BandSet(band, columns), start, count, at4)
+    EventRead::Is {
+        kind: Kind::BandSet { band, columns },
+        start,
+        count,
+        next: at4,
+    }
 }
 
 // A geometry where the kind is 6, else a transfer: three numbers either way.
@@ -211,9 +254,27 @@ fn three_at(script: &[u8], at: usize, kind: u64) -> EventRead
         return EventRead::Bad;
     };
     if kind == 6 {
-        return EventRead::Is(Kind::Geometry(first, second, third), 0, 0, at3);
+        return EventRead::Is {
+            kind: Kind::Geometry {
+                band: first,
+                start: second,
+                length: third,
+            },
+            start: 0,
+            count: 0,
+            next: at3,
+        };
     }
-    EventRead::Is(Kind::Transfer(first, second, third), 0, 0, at3)
+    EventRead::Is {
+        kind: Kind::Transfer {
+            direction: first,
+            start: second,
+            count: third,
+        },
+        start: 0,
+        count: 0,
+        next: at3,
+    }
 }
 
 // The event at a place: its kind, and then its fields.
@@ -263,7 +324,12 @@ pub fn header_at(script: &[u8]) -> HeaderRead
         return HeaderRead::Bad;
     };
     if Drive::in_range(capacity, bands, sensors) {
-        return HeaderRead::Is(capacity, bands, sensors, at3);
+        return HeaderRead::Is {
+            capacity,
+            bands,
+            sensors,
+            next: at3,
+        };
     }
     HeaderRead::Bad
 }
@@ -275,7 +341,13 @@ fn check_from(script: &[u8], start: usize) -> Checked
     let mut at = start;
     let mut count: usize = 0;
     while at < script.len() {
-        let EventRead::Is(_, _, _, next) = event_at(script, at) else {
+        let EventRead::Is {
+            kind: _,
+            start: _,
+            count: _,
+            next,
+        } = event_at(script, at)
+        else {
             return Checked::BadAt(at);
         };
         at = next;
@@ -291,7 +363,13 @@ pub fn check(script: &[u8]) -> Checked
     if MOST_BYTES < script.len() {
         return Checked::BadAt(0);
     }
-    let HeaderRead::Is(_, _, _, at) = header_at(script) else {
+    let HeaderRead::Is {
+        capacity: _,
+        bands: _,
+        sensors: _,
+        next: at,
+    } = header_at(script)
+    else {
         return Checked::BadAt(0);
     };
     check_from(script, at)
