@@ -10,7 +10,7 @@ mod random;
 mod scripts;
 mod tokens;
 
-use baseline::engine::Lister;
+use drive_native::engine::Lister;
 use coverage::Coverage;
 use library::{Answered, Ran, Told};
 use random::Random;
