@@ -9,7 +9,7 @@ ghost use Rattle.drive.specs.Events.{eventOf};
 ghost use Rattle.script.specs.Whole.{readScript};
 ghost use Rattle.run.specs.Outcome.{runScript};
 ghost use Rattle.report.specs.Listing.{told, listing, listOf};
-ghost use Rattle.lines.specs.Parts.{Room};
+ghost use Rattle.report.specs.Parts.{Room};
 ghost use Rattle.api.specs.Exports.{
   ranTo,
   runTold,

@@ -20,10 +20,9 @@ use Rattle.run.specs.Outcome.{Outcome, outcome, outcomeIn, runEvents, runScript
 use Rattle.in_place.proofs.Going.{along-length}
 use Rattle.run.proofs.Whole.{all-taken, accepted-is}
 use Rattle.report.specs.declared.Listed.{Listed}
-use Rattle.lines.specs.Lines.{lines, eventLines, driveLines}
+use Rattle.report.specs.Lines.{lines, eventLines, driveLines}
 use Rattle.report.specs.Listing.{listing, Told, told, toldIn, listOf}
-use Rattle.lines.specs.Parts.{Puts, Room}
-use Rattle.report.specs.Parts.{runLines, Sized}
+use Rattle.report.specs.Parts.{Puts, Room, runLines, Sized}
 use Rattle.report.proofs.Short.{never-short}
 use Rattle.report.proofs.Handing.{handed}
 

@@ -1,12 +1,23 @@
 -- What the parts of the listing do, for the contracts of its own functions.
-use Prim.Native.Nat.{ℕ, _≤_}
+use Prim.Native.Nat.{ℕ, _+_, _≤_}
+use mathlib.Core.Path.{_≡_}
 use mathlib.Core.Bool.{cond}
 use mathlib.Core.List.{List, _++_}
 use lib.Dec.{eqb}
 use lib.ListN.{length}
+use Rattle.base.specs.Spliced.{spliced}
 use Rattle.drive.specs.declared.Drive.{Drive}
 use Rattle.run.specs.Outcome.{Outcome, outcome}
-use Rattle.lines.specs.Lines.{eventLines, driveLines, badLine}
+use Rattle.report.specs.Lines.{eventLines, driveLines, badLine}
+
+-- bytes written from a place on, and the place after them
+pub record Puts (bytes out : List ℕ) (at next : ℕ) (after : List ℕ) : Type 0 where
+  pub output : after ≡ spliced out at bytes
+  pub place : next ≡ at + length bytes
+
+-- there is room for them
+abbrev pub Room : List ℕ → ℕ → List ℕ → Type 0
+Room bytes at out = at + length bytes ≤ length out
 
 -- the lines that a run's result and its buffers give
 abbrev pub runLines : Outcome → List ℕ

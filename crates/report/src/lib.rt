@@ -1,24 +1,17 @@
 // The listing of a script (document 01, 'Listing'): a line for each event, then for each band and each sensor, or the place of what is bad.
 ghost use mathlib.Core.Path.{_≡_};
-ghost use Prim.Native.Nat.{_≤_, _<_};
-ghost use mathlib.Core.List.{_∷_};
+ghost use Prim.Native.Nat.{_≤_};
 ghost use lib.ListN.{length, take};
-ghost use Rattle.base.specs.Lists.{oneIf};
 ghost use Rattle.base.specs.Spliced.{spliced};
 ghost use Rattle.answer.specs.Numbers.{numberOf};
-ghost use Rattle.sensor.specs.Single.{freshSensor};
-ghost use Rattle.band.specs.Rows.{freshRow, valueIn};
-ghost use Rattle.events.specs.Steps.{Takes};
 ghost use Rattle.script.specs.Whole.{readScript};
 ghost use Rattle.run.specs.Outcome.{outcomeIn};
-ghost use Rattle.lines.specs.Parts.{Puts, Room};
 ghost use Rattle.report.specs.Listing.{listing, toldIn, listOf};
-ghost use Rattle.report.specs.Parts.{runLines, Sized};
+ghost use Rattle.report.specs.Parts.{Puts, Room, runLines, Sized};
 use answer::Answer;
-use band::Row;
-use drive::Drive;
 use run::Ran;
-use sensor::Sensor;
+
+mod lines;
 
 // What listing a script hands back: the bytes written, 0 where the output is too short.
 pub struct Listed {

@@ -1,4 +1,4 @@
-use Rattle.lines.proofs.Putting.{Copying, copy-begin, copy-again, copy-done}
+use Rattle.report.proofs.Putting.{Copying, copy-begin, copy-again, copy-done}
 use Prim.Native.Nat.{_-_}
 use lib.ListN.{length}
 use borrow.Author.Needs.{needs}
