@@ -8,11 +8,11 @@ use mathlib.Core.Bool.{Bool, true, false}
 use mathlib.Core.List.{List, [], _∷_, _++_, append-assoc, append-nil}
 use lib.Dec.{ltb}
 use lib.ListN.{length, getD, take, drop, set, length-append, length-set, drop-of-length-le, take-append-drop}
-use lib.Seq.{drop-cons, paste, paste-zero, paste-suc, take-length}
+use lib.Seq.{drop-cons}
 use mir.Syntax.{w64}
 use mir.Val.{Fits}
+use borrow.Author.Needs.{needs}
 use borrow.Author.Tests.{ltb-true, ltb-false}
-use Rattle.base.specs.Spliced.{spliced}
 use Rattle.base.proofs.Spliced.{splice-twice, set-splice}
 use Rattle.report.specs.Lines.{decimal, fields, line, lines}
 use Rattle.report.specs.Parts.{Puts, Room}
@@ -67,6 +67,9 @@ module _ (n at : ℕ) (d : List ℕ) (room : Room (decimal n) at d) where
       puts-as (decimal (n / 10) ++ ((48 + n % 10) ∷ [])) (decimal n) d (set after next (48 + n % 10)) at (next + 1) (sym (decimal-more n h))
       (puts-both (decimal (n / 10)) ((48 + n % 10) ∷ []) d after (set after next (48 + n % 10)) at next (next + 1) (omega (arith, room)) p
       (puts-one after next (48 + n % 10) (last-room next after h p l)))
+
+-- what a function that writes a number asks
+pub ruleset number-put = (digit-room, digit-put, more-room, last-room, last-small, last-put, needs)
 
 -- ---- a number after a space
 
@@ -197,27 +200,3 @@ module _ (f : ℕ → List ℕ) where
 
     pub lines-done : n ≤ i → Puts (lines f n) d start at out
     lines-done h = let e : i ≡ n = omega (arith, h, s .low) in rw (← e) (s .puts)
-
--- ---- a copy: the first i bytes are there
-
-pub record Copying (d bytes out : List ℕ) (i : ℕ) : Type 0 where
-  pub low : i ≤ length bytes
-  pub holds : out ≡ paste d 0 bytes i
-  pub long : length out ≡ length d
-
-pub copy-begin : (d bytes : List ℕ) → Copying d bytes d 0
-copy-begin d bytes = record { low = omega arith; holds = paste-zero d 0 bytes; long = refl }
-
-module _ (d bytes out : List ℕ) (i : ℕ) (s : Copying d bytes out i) where
-  pub copy-again : i < length bytes → Room bytes 0 d → Copying d bytes (set out i (getD bytes i 0)) (i + 1)
-  copy-again h r =
-      let z : 0 + i ≡ i = omega arith in
-      let e : set (paste d 0 bytes i) (0 + i) (getD bytes i 0) ≡ paste d 0 bytes (suc i) = paste-suc d 0 bytes i 0 (omega (arith, h)) (omega (arith, h, r)) in
-      record {
-        low = omega (arith, h);
-        holds = ap (λ (l : List ℕ). set l i (getD bytes i 0)) (s .holds) ∙ ap (λ (k : ℕ). set (paste d 0 bytes i) k (getD bytes i 0)) (sym z) ∙ e ∙ ap (λ (k : ℕ). paste d 0 bytes k) (sym (add-one i));
-        long = simp length-set (s .long);
-      }
-
-  pub copy-done : length bytes ≤ i → out ≡ spliced d 0 bytes
-  copy-done h = let e : i ≡ length bytes = omega (arith, h, s .low) in s .holds ∙ rw (e, take-length)

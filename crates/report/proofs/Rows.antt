@@ -6,12 +6,12 @@ use mathlib.Core.Bool.{Bool}
 use mathlib.Core.List.{List, [], _∷_}
 use lib.ListN.{length, getD}
 use Rattle.base.specs.Lists.{oneIf}
+use Rattle.base.specs.Rows.{Takes}
 use Rattle.phases.specs.Phases.{phaseNumber}
 use Rattle.sensor.specs.declared.single.Sensor.{Sensor}
 use Rattle.sensor.specs.Single.{freshSensor}
 use Rattle.band.specs.declared.Row.{Row}
 use Rattle.band.specs.Rows.{freshRow, valueIn}
-use Rattle.events.specs.Steps.{Takes}
 use Rattle.report.specs.Lines.{line, bandLine, sensorLine}
 use Rattle.report.specs.Parts.{Puts, Room}
 

@@ -1,5 +1,4 @@
-use Rattle.report.proofs.Putting.{falls-by-ten, digit-room, digit-put, more-room, last-room, last-small, last-put}
-use borrow.Author.Needs.{needs}
+use Rattle.report.proofs.Putting.{falls-by-ten, number-put}
 use Prim.Native.Nat.{ℕ, _<_}
 use borrow.Fn.Kinds.{In}
 use borrow.Fn.PlainCycle.{Measures, is, falls, and}
@@ -23,16 +22,6 @@ put-digits-below t =
 pub +put-digits-spec : {M : Type 1} → statement M
 +put-digits-spec =
     close μ-put-digits λ t. put-digits-lts.spec (put-digits-below t, put-digits.Post) (put-digits-at t) put-digits.Post
-    (λ c. search needs)
-    (λ c. search needs)
-    (λ c. search (digit-room, needs))
-    (λ c. search (digit-room, needs))
-    (λ c. search needs)
-    (λ c. search digit-put)
-    (λ c κs. (search (falls-by-ten, needs), search (more-room, needs)))
-    (λ c. search needs)
-    (λ c. search needs)
-    (λ c. search (last-room, needs))
-    (λ c. search (last-small, needs))
-    (λ c. search needs)
-    (λ c. search (last-put, needs))
+    (λ c. search number-put) (λ c. search number-put) (λ c. search number-put) (λ c. search number-put) (λ c. search number-put)
+    (λ c. search number-put) (λ c κs. (search (falls-by-ten, number-put), search number-put)) (λ c. search number-put)
+    (λ c. search number-put) (λ c. search number-put) (λ c. search number-put) (λ c. search number-put) (λ c. search number-put)
