@@ -1,4 +1,6 @@
 // The listing of a script (document 01, 'Listing'): a line for each event, then for each band and each sensor, or the place of what is bad.
+mod lines;
+
 ghost use mathlib.Core.Path.{_≡_};
 ghost use Prim.Native.Nat.{_≤_};
 ghost use lib.ListN.{length, take};
@@ -9,8 +11,6 @@ ghost use Rattle.report.specs.Listing.{listing, toldIn, listOf};
 ghost use Rattle.report.specs.Parts.{Puts, Room, runLines, Sized};
 use answer::Answer;
 use run::Ran;
-
-mod lines;
 
 // What listing a script hands back: the bytes written, 0 where the output is too short.
 pub struct Listed {
