@@ -3,13 +3,12 @@
 ghost use mathlib.Core.Path.{_≡_};
 ghost use Prim.Native.Nat.{_≤_};
 ghost use lib.ListN.{length, getD};
-ghost use Rattle.base.specs.Spliced.{spliced};
 ghost use Rattle.token_reader.specs.Read.{readTokens};
 ghost use Rattle.drive.specs.Events.{eventOf};
 ghost use Rattle.script.specs.Whole.{readScript};
+ghost use Rattle.in_place.specs.Course.{over};
 ghost use Rattle.run.specs.Outcome.{runScript};
 ghost use Rattle.report.specs.Listing.{told, listing, listOf};
-ghost use Rattle.lines.specs.Parts.{Room};
 ghost use Rattle.api.specs.Exports.{
   ranTo,
   runTold,
@@ -62,8 +61,8 @@ pub extern "C" fn drive_run(
 
 // Copies numbers to the output's start.
 fn copy(out: &mut [u64], codes: &[u64])
-    requires { ⌜ Room (now codes) 0 (now out) ⌝ }
-    ensures { λ _. ⌜ now (out .exit) ≡ spliced (now (out .entry)) 0 (now (codes .entry)) ⌝ }
+    requires { ⌜ length (now codes) ≤ length (now out) ⌝ }
+    ensures { λ _. ⌜ now (out .exit) ≡ over (now (codes .entry)) (now (out .entry)) ⌝ }
 {
     let mut i = 0;
     while i < codes.len() {

@@ -1,9 +1,20 @@
-// The locking rows of a drive (document 01, 'Bands'), by value: what a reset makes of all sixteen, and which are closed.
+// The locking rows of a drive (document 01, 'Bands'), by value: one of them, what a reset makes of all sixteen, and which are closed.
 ghost use mathlib.Core.Path.{_≡_};
 ghost use mathlib.Core.List.{map};
-ghost use Rattle.band.specs.Rows.{resetRow, closedOn};
+ghost use Rattle.base.specs.Rows.{Takes};
+ghost use Rattle.band.specs.Rows.{freshRow, resetRow, closedOn};
 use band::Row;
 use band::Side;
+
+// One of the sixteen; a fresh row past them.
+pub fn row_at(rows: [Row; 16], at: usize) -> Row
+    ensures { λ r. ⌜ Takes rows at freshRow r ⌝ }
+{
+    if at < 16 {
+        return rows[at];
+    }
+    Row::fresh()
+}
 
 // Each row after a reset of a type.
 pub fn reset_all(rows: [Row; 16], reset_type: u64) -> [Row; 16]

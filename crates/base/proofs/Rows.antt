@@ -6,9 +6,9 @@ use native.Mathlib.Omega.{arith}
 use mathlib.Core.Bool.{Bool, true, false, not, _&&_, false≢true}
 use mathlib.Core.List.{List, [], _∷_, map}
 use lib.Dec.{ltb}
-use lib.ListN.{length, getD, set}
+use lib.ListN.{length, getD, set, List·getD-eq-default}
 use borrow.Author.Tests.{lt-ltb, le-ltb, ltb-true, not-false}
-use Rattle.base.specs.Rows.{isRow, modify}
+use Rattle.base.specs.Rows.{isRow, modify, Takes}
 use Rattle.base.proofs.Cases.{and-yes, and-no, and-left, and-right}
 
 and-last : (a b : Bool) → b ≡ false → (a && b) ≡ false
@@ -45,6 +45,13 @@ pub getD-any : {A : Type 0} (l : List A) (i : ℕ) (d e : A) → i < length l �
 getD-any [] i d e h = absurd (omega arith)
 getD-any (x ∷ l) zero d e h = refl
 getD-any (x ∷ l) (suc i) d e h = getD-any l i d e (omega arith)
+
+-- an element as the code takes it, and what stands for one past the last
+pub taken : {A : Type 0} (l : List A) (i : ℕ) (y z : A) → length l ≡ 16 → i < 16 → Takes l i z (getD l i y)
+taken l i y z e h = record { long = e; element = getD-any l i y z (omega arith) }
+
+pub taken-past : {A : Type 0} (l : List A) (i : ℕ) (z r : A) → length l ≡ 16 → 16 ≤ i → r ≡ z → Takes l i z r
+taken-past l i z r e h q = record { long = e; element = q ∙ sym (List·getD-eq-default l z (omega arith)) }
 
 -- two numbers that a test tells apart
 pub apart : (p : ℕ → Bool) (m n : ℕ) → p m ≡ true → p n ≡ false → m ≢ n

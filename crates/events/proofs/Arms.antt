@@ -5,11 +5,11 @@ use native.Mathlib.Omega.{arith}
 use mathlib.Core.Bool.{Bool, true, false, not, cond}
 use mathlib.Core.List.{List, map}
 use lib.Dec.{eqb}
-use lib.ListN.{length, getD, set}
+use lib.ListN.{set}
 use borrow.Author.Tests.{eqb-true}
-use Rattle.base.specs.Rows.{isRow, modify}
+use Rattle.base.specs.Rows.{isRow, modify, Takes}
 use Rattle.base.proofs.Cases.{cond-true, cond-false}
-use Rattle.base.proofs.Rows.{row-place, modify-set, getD-any}
+use Rattle.base.proofs.Rows.{row-place, modify-set}
 use Rattle.answer.specs.declared.Answer.{Answer}
 use Rattle.answer.specs.declared.Answer.the-variants.{Done, NoRow, OutOfRange}
 use Rattle.answer.specs.Numbers.{numberOf}
@@ -36,7 +36,7 @@ use Rattle.elapse.specs.declared.Elapsed.{Elapsed}
 use Rattle.elapse.specs.Jumps.{Elapses}
 use Rattle.row_set.specs.declared.RowAnswer.{RowAnswer}
 use Rattle.row_set.specs.Forming.{rowAnswer, SetsRow}
-use Rattle.events.specs.Parts.{Takes, refused, granting, Stores}
+use Rattle.events.specs.Parts.{refused, granting, Stores}
 use Rattle.events.proofs.Answering.{refuses, grants, done, by-answer}
 
 -- ---- a sensor's and a row's events
@@ -172,10 +172,6 @@ no-band d b c bytes t q p e w = refuses d (bandSet b c bytes) NoRow q w (A.no-ba
 -- a refusal has no stops
 pub no-stops : (d : Drive) (a : Answer) (q : Reply) (n : ℕ) → q ≡ refused a d → q .stops ≤ n
 no-stops d a q n w = omega (arith, ap (λ (r : Reply). r .stops) w)
-
--- an element as the code takes it
-pub taken : {A : Type 0} (l : List A) (i : ℕ) (y z : A) → length l ≡ 16 → i < 16 → Takes l i z (getD l i y)
-taken l i y z e h = record { long = e; element = getD-any l i y z (omega arith) }
 
 -- any of the seven
 pub applied : (d : Drive) (k l : Kind) (bytes : List ℕ) (q : Reply) → k ≡ l → Replies d (eventOf l bytes) q → Replies d (eventOf k bytes) q

@@ -1,21 +1,13 @@
 -- What the parts of an event's code hand on: the reply, by what a sensor, a row or the token reader answered.
-use Prim.Native.Nat.{ℕ}
 use mathlib.Core.Path.{_≡_}
 use mathlib.Core.Bool.{cond}
-use mathlib.Core.List.{List}
 use lib.Dec.{eqb}
-use lib.ListN.{length, getD}
 use Rattle.answer.specs.declared.Answer.{Answer}
 use Rattle.answer.specs.declared.Answer.the-variants.{Done}
 use Rattle.answer.specs.Numbers.{numberOf}
 use Rattle.drive.specs.declared.Drive.{Drive}
 use Rattle.drive.specs.declared.Reply.{Reply}
 use Rattle.drive.specs.State.{settleOf}
-
--- an element of one of the drive's arrays
-pub record Takes {A : Type 0} (l : List A) (i : ℕ) (z r : A) : Type 0 where
-  pub long : length l ≡ 16
-  pub element : r ≡ getD l i z
 
 -- a refusal, and an event that is done
 abbrev pub refused : Answer → Drive → Reply

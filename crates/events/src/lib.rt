@@ -6,13 +6,12 @@ ghost use Prim.Native.Nat.{_<_, _≤_};
 ghost use lib.Dec.{eqb};
 ghost use lib.ListN.{set};
 ghost use Rattle.answer.specs.Numbers.{numberOf};
-ghost use Rattle.sensor.specs.Single.{freshSensor, powerCycleOf};
-ghost use Rattle.band.specs.Rows.{freshRow};
+ghost use Rattle.sensor.specs.Single.{powerCycleOf};
 ghost use Rattle.drive.specs.State.{withRows, withSensors};
 ghost use Rattle.drive.specs.Events.{Replies, eventOf};
 ghost use Rattle.drive.specs.Events.{Event as E};
 ghost use Rattle.elapse.specs.Jumps.{running};
-ghost use Rattle.events.specs.Parts.{Takes, refused, granting, Stores};
+ghost use Rattle.events.specs.Parts.{refused, granting, Stores};
 use answer::Answer;
 use band::BandColumns;
 use band::Row;
@@ -54,21 +53,6 @@ fn grant(drive: Drive) -> Reply
     }
 }
 
-// One of the sixteen.
-fn sensor_at(all: [Sensor; 16], at: usize) -> Sensor
-    requires { ⌜ at < 16 ⌝ }
-    ensures { λ r. ⌜ Takes all at freshSensor r ⌝ }
-{
-    all[at]
-}
-
-fn row_at(all: [Row; 16], at: usize) -> Row
-    requires { ⌜ at < 16 ⌝ }
-    ensures { λ r. ⌜ Takes all at freshRow r ⌝ }
-{
-    all[at]
-}
-
 // What a sensor's answer makes of the drive.
 fn store_sensor(drive: Drive, at: usize, r: SensorAnswer) -> Reply
     requires { ⌜ at < 16 ⌝ }
@@ -93,7 +77,7 @@ pub fn reading(drive: Drive, sensor: u64, value: u64) -> Reply
     }
     let at = sensor as usize;
     let all = drive.sensors;
-    let one = sensor_at(all, at);
+    let one = sensors::sensor_at(all, at);
     let r = one.reading(value);
     store_sensor(drive, at, r)
 }
@@ -150,7 +134,7 @@ pub fn set_sensor(drive: Drive, sensor: u64, columns: SensorColumns) -> Reply
     }
     let at = sensor as usize;
     let all = drive.sensors;
-    let former = sensor_at(all, at);
+    let former = sensors::sensor_at(all, at);
     let r = former.set(columns);
     store_sensor(drive, at, r)
 }
@@ -180,7 +164,7 @@ pub fn set_band(drive: Drive, band: u64, columns: BandColumns, tokens: &[u8]) ->
     let at = band as usize;
     let conditions = drive.conditions();
     let all = drive.rows;
-    let one = row_at(all, at);
+    let one = bands::row_at(all, at);
     let r = row_set::set(one, conditions, columns, tokens);
     store_row(drive, at, r)
 }

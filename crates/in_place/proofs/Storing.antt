@@ -9,7 +9,7 @@ use lib.Dec.{eqb, ltb}
 use lib.ListN.{length, getD, set}
 use borrow.Author.Tests.{le-ltb, ltb-false, ltb-true, eq-eqb, ne-eqb}
 use Rattle.base.specs.Lists.{oneIf, any}
-use Rattle.base.specs.Rows.{isRow, modify}
+use Rattle.base.specs.Rows.{isRow, modify, Takes}
 use Rattle.base.specs.Ticks.{ticks}
 use Rattle.base.specs.Ticks.{stops as stopsIn}
 use Rattle.base.proofs.Cases.{cond-true, cond-false, neither}
@@ -52,7 +52,7 @@ use Rattle.elapse.specs.Parts.{jumpOf}
 use Rattle.elapse.proofs.Calm.{Calm, drive-jumps}
 use Rattle.row_set.specs.declared.RowAnswer.{RowAnswer}
 use Rattle.row_set.specs.Forming.{rowAnswer, SetsRow}
-use Rattle.events.specs.Parts.{Takes, refused}
+use Rattle.events.specs.Parts.{refused}
 use Rattle.events.proofs.Arms.{row-place, row-there, behind, cond-not, row-answer, no-sensor-reading, no-sensor-set, no-band, elapse-refused, reset-refused, place-answer}
 use Rattle.in_place.specs.declared.inner.Moved.{Moved}
 use Rattle.in_place.specs.declared.inner.Formed.{Formed}

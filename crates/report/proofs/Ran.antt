@@ -8,10 +8,9 @@ use borrow.Author.Tests.{eq-eqb, ne-eqb}
 use Rattle.answer.specs.Numbers.{numberOf}
 use Rattle.run.specs.declared.Ran.{Ran}
 use Rattle.run.specs.Outcome.{outcomeIn}
-use Rattle.lines.specs.Lines.{line, badLine, eventLines, driveLines}
-use Rattle.lines.specs.Parts.{Puts, Room}
-use Rattle.lines.proofs.Whole.{room-first, room-second, both-put}
-use Rattle.report.specs.Parts.{runLines}
+use Rattle.report.specs.Lines.{line, badLine, eventLines, driveLines}
+use Rattle.report.specs.Parts.{Puts, Room, runLines}
+use Rattle.report.proofs.Parts.{room-first, room-second, both-put}
 
 module _ (r : Ran) (answers stops d : List ℕ) (number : ℕ) (e : number ≡ numberOf (r .answer)) where
   bad-lines : number ≡ 10 → runLines (outcomeIn r answers stops) ≡ badLine (r .place)

@@ -36,9 +36,9 @@ use Rattle.script.specs.Parts.{eventsIn, eventsFrom}
 use Rattle.script.proofs.Few.{few-events}
 use Rattle.in_place.specs.Course.{along, answersOf, stopsIn}
 use Rattle.run.proofs.Whole.{accepted-is}
-use Rattle.lines.specs.Lines.{decimal, fields, line, lines, eventLine, eventLines, bandLine, bandLines, sensorLine, sensorLines, driveLines, badLine}
+use Rattle.report.specs.Lines.{decimal, fields, line, lines, eventLine, eventLines, bandLine, bandLines, sensorLine, sensorLines, driveLines, badLine}
 use Rattle.report.specs.Listing.{listing}
-use Rattle.lines.proofs.Decimal.{few-digits}
+use Rattle.report.proofs.Decimal.{few-digits}
 
 -- ---- a line
 

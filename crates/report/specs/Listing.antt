@@ -9,7 +9,7 @@ use Rattle.drive.specs.State.{freshDrive}
 use Rattle.drive.specs.Events.{runOf}
 use Rattle.script.specs.Whole.{Script, accepted, bad}
 use Rattle.in_place.specs.Course.{answersOf, stopsIn, over}
-use Rattle.lines.specs.Lines.{eventLines, driveLines, badLine}
+use Rattle.report.specs.Lines.{eventLines, driveLines, badLine}
 use Rattle.report.specs.declared.Listed.{Listed}
 
 -- the events' lines, then those of the drive that the last event left

@@ -1,24 +1,16 @@
 // The listing of a script (document 01, 'Listing'): a line for each event, then for each band and each sensor, or the place of what is bad.
+mod lines;
+
 ghost use mathlib.Core.Path.{_≡_};
-ghost use Prim.Native.Nat.{_≤_, _<_};
-ghost use mathlib.Core.List.{_∷_};
+ghost use Prim.Native.Nat.{_≤_};
 ghost use lib.ListN.{length, take};
-ghost use Rattle.base.specs.Lists.{oneIf};
-ghost use Rattle.base.specs.Spliced.{spliced};
 ghost use Rattle.answer.specs.Numbers.{numberOf};
-ghost use Rattle.sensor.specs.Single.{freshSensor};
-ghost use Rattle.band.specs.Rows.{freshRow, valueIn};
-ghost use Rattle.events.specs.Parts.{Takes};
 ghost use Rattle.script.specs.Whole.{readScript};
 ghost use Rattle.run.specs.Outcome.{outcomeIn};
-ghost use Rattle.lines.specs.Parts.{Puts, Room};
 ghost use Rattle.report.specs.Listing.{listing, toldIn, listOf};
-ghost use Rattle.report.specs.Parts.{runLines, Sized};
+ghost use Rattle.report.specs.Parts.{Puts, Room, runLines, Sized};
 use answer::Answer;
-use band::Row;
-use drive::Drive;
 use run::Ran;
-use sensor::Sensor;
 
 // What listing a script hands back: the bytes written, 0 where the output is too short.
 pub struct Listed {
@@ -31,7 +23,7 @@ pub const MOST: usize = 426_486;
 
 // Writes the listing that a run's result and its buffers give, from the output's start.
 fn put_run(out: &mut [u8], ran: Ran, answers: &[u8], stops: &[u8]) -> usize
-    requires { ⌜ (Room (runLines (outcomeIn ran (now answers) (now stops))) 0 (now out)) × Sized (ran .count) (ran .drive) (now answers) (now stops) ⌝ }
+    requires { ⌜ (Room (runLines (outcomeIn ran (now answers) (now stops))) 0 (now out)) × Sized (ran .count) (now answers) (now stops) ⌝ }
     ensures { λ r. ⌜ Puts (runLines (outcomeIn ran (now (answers .entry)) (now (stops .entry)))) (now (out .entry)) 0 r (now (out .exit)) ⌝ }
 {
     let answer = ran.answer;
@@ -42,18 +34,6 @@ fn put_run(out: &mut [u8], ran: Ran, answers: &[u8], stops: &[u8]) -> usize
     let drive = ran.drive;
     let at = lines::put_events(out, answers, stops, ran.count);
     lines::put_drive(out, at, drive)
-}
-
-// Copies bytes to the output's start.
-fn copy(out: &mut [u8], bytes: &[u8])
-    requires { ⌜ Room (now bytes) 0 (now out) ⌝ }
-    ensures { λ _. ⌜ now (out .exit) ≡ spliced (now (out .entry)) 0 (now (bytes .entry)) ⌝ }
-{
-    let mut i = 0;
-    while i < bytes.len() {
-        out[i] = bytes[i];
-        i += 1;
-    }
 }
 
 // Hands bytes over where they fit.
@@ -67,7 +47,7 @@ fn hand(bytes: &[u8], out: &mut [u8]) -> Listed
             length: 0,
         };
     }
-    copy(out, bytes);
+    bytes::copy(bytes, out);
     Listed {
         answer: Answer::Done,
         length,

@@ -1,9 +1,10 @@
-// The sensors of a drive (document 01, 'Sensors'), by value: what a tick, a jump over quiet ticks and a power cycle make of all sixteen.
+// The sensors of a drive (document 01, 'Sensors'), by value: one of them, and what a tick, a jump over quiet ticks and a power cycle make of all sixteen.
 ghost use mathlib.Core.Path.{_≡_};
 ghost use mathlib.Core.List.{map};
 ghost use Rattle.base.specs.Lists.{any, oneIf};
 ghost use Rattle.base.specs.Lists.{count as countOf};
-ghost use Rattle.sensor.specs.Single.{sensorTick, powerCycleOf, runs, endsNext};
+ghost use Rattle.base.specs.Rows.{Takes};
+ghost use Rattle.sensor.specs.Single.{freshSensor, sensorTick, powerCycleOf, runs, endsNext};
 ghost use Rattle.sensor.specs.Parts.{loweredBy};
 ghost use Rattle.sensors.specs.Sixteen.{conditionsBelow, Passes};
 ghost use Rattle.sensors.specs.Parts.{quietTicks, turnOf};
@@ -20,6 +21,16 @@ pub struct Turn {
     pub sensors: [Sensor; 16],
     pub left: u32,
     pub stops: u64,
+}
+
+// One of the sixteen; a fresh sensor past them.
+pub fn sensor_at(sensors: [Sensor; 16], at: usize) -> Sensor
+    ensures { λ r. ⌜ Takes sensors at freshSensor r ⌝ }
+{
+    if at < 16 {
+        return sensors[at];
+    }
+    Sensor::fresh()
 }
 
 // Each sensor after a tick, which changes those alone whose timer runs.

@@ -14,7 +14,7 @@ returns : tie.Need-returns
 returns c = search no-sensor-reading
 
 sensor-at-requires : tie.Need-sensor-at-requires
-sensor-at-requires c κs = search row-place
+sensor-at-requires c κs = search needs
 
 reading-requires : tie.Need-reading-requires
 reading-requires c κs = search needs

@@ -17,7 +17,7 @@ conditions-requires : tie.Need-conditions-requires
 conditions-requires c κs = search needs
 
 row-at-requires : tie.Need-row-at-requires
-row-at-requires c κs = search row-place
+row-at-requires c κs = search needs
 
 set-requires : tie.Need-set-requires
 set-requires c κs = search needs

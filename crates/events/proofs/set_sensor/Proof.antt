@@ -14,7 +14,7 @@ returns : tie.Need-returns
 returns c = search no-sensor-set
 
 sensor-at-requires : tie.Need-sensor-at-requires
-sensor-at-requires c κs = search (row-place, needs)
+sensor-at-requires c κs = search needs
 
 set-requires : tie.Need-set-requires
 set-requires c κs = search needs

@@ -1,19 +1,13 @@
-use Rattle.report.proofs.Handing.{too-short, handed}
+use Rattle.report.proofs.Handing.{too-short, handed, copied}
 use borrow.Author.Needs.{needs}
 use Rattle.report.proofs.hand.Statement.{statement}
 use Rattle.report.proofs.hand.Tie as tie
 
-returns : tie.Need-returns
-returns c = search too-short
-
-copy-requires : tie.Need-copy-requires
-copy-requires c κs = search needs
-
-same-length : tie.Need-same-length
-same-length c = search needs
-
-returns-2 : tie.Need-returns-2
-returns-2 c = search handed
-
 pub hand-spec : {M : Type 1} → statement M
-hand-spec = tie.close (tie.spec returns copy-requires same-length returns-2)
+hand-spec =
+    tie.close
+    (tie.spec
+    (λ c. search too-short)
+    (λ c κs. search needs)
+    (λ c. search needs)
+    (λ c. search (handed, copied, needs)))

@@ -1,4 +1,0 @@
-pub mod Decimal
-pub mod Putting
-pub mod Rows
-pub mod Whole
