@@ -20,14 +20,13 @@ use Rattle.band.specs.declared.Row.{Row}
 use Rattle.band.specs.Rows.{freshRow, lockedOn, valueIn}
 use Rattle.drive.specs.declared.Drive.{Drive}
 use Rattle.drive.specs.State.{freshDrive, headerFits, conditionsOf}
-use Rattle.drive.specs.Events.{Event, reading, elapse, reset, sensorSet, bandSet, geometry, transfer, refusals, lowest, answerOf, elapsedStops, stopsOf, stepOf, runOf}
+use Rattle.drive.specs.Events.{Event, reading, elapse, reset, sensorSet, bandSet, geometry, transfer, refusals, lowest, answerOf, elapsedStops, stopsOf, stepOf, runOf, along, answersOf, stopsIn}
 use Rattle.elapse.proofs.Calm.{stops-few}
 use Rattle.reached.proofs.Reaching.{fresh-reached}
 use Rattle.script.specs.Fields.{Parsed, event, broken, eventAt}
 use Rattle.script.specs.Whole.{Header, header, noHeader, headerAt, Events, events, badFrom, before, andThen, eventsIn, eventsFrom, Script, accepted, bad, withEvents, withHeader, readScript}
 use Rattle.script.proofs.Few.{few-events}
 use Rattle.in_place.proofs.Parts.{few-counted}
-use Rattle.in_place.specs.Course.{along, answersOf, stopsIn}
 use Rattle.run.proofs.Whole.{accepted-is}
 use Rattle.lines.specs.Lines.{decimal, fields, line, lines, eventLine, eventLines, bandLine, bandLines, sensorLine, sensorLines, driveLines, badLine}
 use Rattle.report.specs.Listing.{listing}

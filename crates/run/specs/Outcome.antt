@@ -9,9 +9,8 @@ use Rattle.answer.specs.declared.Answer.{Answer}
 use Rattle.answer.specs.Numbers.{numberOf}
 use Rattle.drive.specs.declared.Drive.{Drive}
 use Rattle.drive.specs.State.{freshDrive}
-use Rattle.drive.specs.Events.{Event, runOf}
+use Rattle.drive.specs.Events.{Event, runOf, answersOf, stopsIn, over}
 use Rattle.script.specs.Whole.{events, Script, accepted, bad, readScript}
-use Rattle.in_place.specs.Course.{answersOf, stopsIn, over}
 use Rattle.run.specs.declared.Ran.{Ran}
 
 -- ---- what a run hands back: answer, place, number of events run and drive, with the two buffers

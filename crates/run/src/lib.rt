@@ -59,9 +59,7 @@ fn run_first(script: &[u8], count: usize, answers: &mut [u8], stops: &mut [u8]) 
     let HeaderRead::Is(capacity, bands, sensors, at) = script::header_at(script) else {
         return refused(Answer::BadScript, 0);
     };
-    let made = Drive::fresh(capacity, bands, sensors);
-    let fresh = made.drive;
-    let drive = in_place::run_events(script, at, count, fresh, answers, stops);
+    let drive = in_place::run_events(script, at, count, capacity, bands, sensors, answers, stops);
     Ran {
         answer: Answer::Done,
         place: 0,

@@ -17,7 +17,7 @@ use Rattle.drive.specs.declared.Fresh.{Fresh}
 use Rattle.drive.specs.State.{headerFits, freshDrive, Freshens, withRows, settleOf, tickOf}
 use Rattle.drive.specs.Events.{Event, reading, elapse, reset, sensorSet, bandSet, geometry, transfer, answerOf, actOf, stepOf}
 use Rattle.drive.proofs.Settling.{settle-twice}
-use Rattle.in_place.specs.Course.{Kept}
+use Rattle.in_place.specs.Parts.{SettledSixteen}
 
 modify-length : {A : Type 0} (f : A → A) (i : ℕ) (l : List A) → length (modify f i l) ≡ length l
 modify-length f i [] = refl
@@ -51,11 +51,11 @@ act-sixteen d (bandSet b c bytes) h = record { rows = modify-length _ b (d .rows
 act-sixteen d (geometry b start n) h = record { rows = h .rows; sensors = h .sensors }
 act-sixteen d (transfer w start n) h = h
 
-pub step-kept : (d : Drive) (e : Event) → Kept d → Kept (stepOf d e)
+pub step-kept : (d : Drive) (e : Event) → SettledSixteen d → SettledSixteen (stepOf d e)
 unfolding stepOf
 step-kept d e k = go (eqb (answerOf d e) 0)
   where
-    go : (b : Bool) → Kept (cond b (settleOf (actOf d e)) d)
+    go : (b : Bool) → SettledSixteen (cond b (settleOf (actOf d e)) d)
     go true =
         let h = settle-sixteen (actOf d e) (act-sixteen d e (record { rows = k .rows; sensors = k .sensors })) in
         record { rows = h .rows; sensors = h .sensors; settled = settle-twice (actOf d e) }
@@ -67,7 +67,7 @@ fresh-shut : any isOpen (replicate 16 freshRow) ≡ false
 unfolding any freshRow
 fresh-shut = refl
 
-fresh-is-kept : (capacity bands sensors : ℕ) → Kept (freshDrive capacity bands sensors)
+fresh-is-kept : (capacity bands sensors : ℕ) → SettledSixteen (freshDrive capacity bands sensors)
 unfolding freshDrive settleOf
 fresh-is-kept capacity bands sensors = record {
   rows = refl;
@@ -75,9 +75,9 @@ fresh-is-kept capacity bands sensors = record {
   settled = ap (λ (rows : List Row). withRows rows (freshDrive capacity bands sensors)) (settle-shut _ (replicate 16 freshRow) fresh-shut);
 }
 
-pub fresh-kept : (capacity bands sensors : ℕ) (f : Fresh) → Freshens capacity bands sensors f → Kept (f .drive)
-fresh-kept capacity bands sensors f p = subst Kept (sym (p .drive)) (go (headerFits capacity bands sensors))
+pub fresh-kept : (capacity bands sensors : ℕ) (f : Fresh) → Freshens capacity bands sensors f → SettledSixteen (f .drive)
+fresh-kept capacity bands sensors f p = subst SettledSixteen (sym (p .drive)) (go (headerFits capacity bands sensors))
   where
-    go : (b : Bool) → Kept (cond b (freshDrive capacity bands sensors) (freshDrive 1 1 0))
+    go : (b : Bool) → SettledSixteen (cond b (freshDrive capacity bands sensors) (freshDrive 1 1 0))
     go true = fresh-is-kept capacity bands sensors
     go false = fresh-is-kept 1 1 0
