@@ -6,7 +6,7 @@ ghost use lib.ListN.{length, getD};
 ghost use Rattle.token_reader.specs.Read.{readTokens};
 ghost use Rattle.drive.specs.Events.{eventOf};
 ghost use Rattle.script.specs.Whole.{readScript};
-ghost use Rattle.in_place.specs.Course.{over};
+ghost use Rattle.drive.specs.Events.{over};
 ghost use Rattle.run.specs.Outcome.{runScript};
 ghost use Rattle.report.specs.Listing.{told, listing, listOf};
 ghost use Rattle.api.specs.Exports.{

@@ -2,7 +2,9 @@
 use mathlib.Core.Path.{_≡_, refl, ap, _∙_}
 use mathlib.Core.Bool.{Bool, false}
 use Prim.Native.Nat.{ℕ, _+_, _<_, _≤_}
+use lib.Dec.{eqb}
 use lib.ListN.{length, getD, set}
+use Rattle.base.proofs.Cases.{cond-either}
 use Rattle.base.proofs.Loops.{Mapped, map-begin, map-again, map-skip, map-done}
 use mathlib.Core.List.{List, [], _∷_, map}
 use Rattle.sensor.specs.declared.single.Sensor.{Sensor}
@@ -12,6 +14,7 @@ use Rattle.band.specs.Rows.{settleRow}
 use Rattle.band.specs.Parts.{isLockable}
 use Rattle.band.proofs.Settling.{not-lockable, settle-again}
 use Rattle.drive.specs.declared.Drive.{Drive}
+use Rattle.drive.specs.Events.{Event, answerOf, actOf, stepOf}
 use Rattle.drive.specs.State.{withRows, withSensors, conditionsOf, settleOf, tickOf, fallOf}
 
 -- ---- the loop that settles the rows in place
@@ -70,3 +73,8 @@ settle-with d l e = ap (λ (cs : List Bool). withSensors l (withRows (map (settl
 pub tick-settled : (d : Drive) → settleOf (tickOf d) ≡ tickOf d
 unfolding tickOf
 tick-settled d = settle-twice (fallOf d)
+
+-- every event leaves settled bands settled
+pub step-settled : (d : Drive) (e : Event) → settleOf d ≡ d → settleOf (stepOf d e) ≡ stepOf d e
+unfolding stepOf
+step-settled d e h = cond-either (λ x. settleOf x ≡ x) (eqb (answerOf d e) 0) (settleOf (actOf d e)) d (λ q. settle-twice (actOf d e)) (λ q. h)

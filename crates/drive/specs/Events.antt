@@ -2,9 +2,9 @@
 use Prim.Native.Nat.{ℕ}
 use mathlib.Core.Path.{_≡_}
 use mathlib.Core.Bool.{Bool, not, cond, _||_}
-use mathlib.Core.List.{List, [], _∷_, map}
+use mathlib.Core.List.{List, [], _∷_, _++_, map}
 use lib.Dec.{eqb, ltb}
-use lib.ListN.{length}
+use lib.ListN.{length, drop}
 use Rattle.base.specs.Ticks.{mostTicks, ticks, stops}
 use Rattle.base.specs.Columns.{named}
 use Rattle.base.specs.Refusals.{Refusal, when, firstOf, LowestOf}
@@ -174,3 +174,20 @@ eventOf (K.Transfer w start n) bytes = transfer w start n
 unfoldable pub runOf : Drive → List Event → Drive
 runOf d [] = d
 runOf d (e ∷ es) = runOf (stepOf d e) es
+
+-- what each event of a list gets, on the drive that the last one left
+unfoldable pub along : (Drive → Event → ℕ) → Drive → List Event → List ℕ
+along f d [] = []
+along f d (e ∷ es) = f d e ∷ along f (stepOf d e) es
+
+-- "each event gets its answer"
+abbrev pub answersOf : Drive → List Event → List ℕ
+answersOf d es = along answerOf d es
+
+-- and its stops, 0 for all but an elapse
+abbrev pub stopsIn : Drive → List Event → List ℕ
+stopsIn d es = along stopsOf d es
+
+-- bytes from the start of a lent buffer, and the rest of it untouched
+abbrev pub over : List ℕ → List ℕ → List ℕ
+over bytes lent = bytes ++ drop (length bytes) lent

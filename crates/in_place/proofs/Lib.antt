@@ -1,5 +1,5 @@
 pub mod Parts
-pub mod Keeping
+pub mod Sixteen
 pub mod Storing
-pub mod Closing
-pub mod Going
+pub mod Finishing
+pub mod Running

@@ -9,6 +9,7 @@ use lib.ListN.{length}
 use borrow.Author.Tests.{lt-ltb, le-ltb}
 use Rattle.base.specs.Lists.{oneIf, any, count}
 use Rattle.base.proofs.Cases.{cond-true, cond-false}
+use Rattle.base.proofs.Lists.{few-counted}
 use Rattle.base.proofs.Jumps.{quiet-ticks, quiet-stops}
 use Rattle.answer.specs.declared.Answer.{Answer}
 use Rattle.answer.specs.Numbers.{numberOf}
@@ -26,10 +27,10 @@ use Rattle.band.specs.Rows.{settleRow}
 use Rattle.band.specs.Parts.{isLockable}
 use Rattle.row_set.specs.declared.RowAnswer.{RowAnswer}
 use Rattle.row_set.specs.Forming.{SetsRow}
-use Rattle.in_place.specs.declared.inner.Moved.{Moved}
-use Rattle.in_place.specs.declared.inner.Formed.{Formed}
-use Rattle.in_place.specs.declared.inner.Passing.{Passing}
-use Rattle.in_place.specs.Parts.{Moves, Forms, byStops, PassesBy}
+use Rattle.in_place.specs.declared.SensorAfter.{SensorAfter}
+use Rattle.in_place.specs.declared.RowAfter.{RowAfter}
+use Rattle.in_place.specs.declared.SensorsAfter.{SensorsAfter}
+use Rattle.in_place.specs.Parts.{LeavesSensor, LeavesRow, byStops, LeavesSensors}
 
 -- ---- one sensor
 
@@ -41,7 +42,7 @@ pub was-false : (a b : Bool) → a ≡ false → b ≡ not (Bool·beq a b)
 was-false a true e = ap (λ (x : Bool). not (Bool·beq x true)) (sym e)
 was-false a false e = ap (λ (x : Bool). not (Bool·beq x false)) (sym e)
 
-pub moves : (n : ℕ) (new one : Sensor) (r : SensorAnswer) (m : Moved) → Answers n new r → Moves (numberOf (r .answer)) (r .sensor) one m → Moves n new one m
+pub moves : (n : ℕ) (new one : Sensor) (r : SensorAnswer) (m : SensorAfter) → Answers n new r → LeavesSensor (numberOf (r .answer)) (r .sensor) one m → LeavesSensor n new one m
 moves n new one r m p q = record {
   number-is = q .number-is ∙ p .answer;
   sensor-is = q .sensor-is ∙ p .sensor;
@@ -50,14 +51,14 @@ moves n new one r m p q = record {
 
 -- ---- one row
 
-pub forms : (cs : List Bool) (c : BandColumns) (part bytes : List ℕ) (one : Row) (r : RowAnswer) (m : Formed) (new : Row) (a : ℕ) (o : Bool) → part ≡ bytes → SetsRow cs c part one r
-    → new ≡ settleRow cs (r .row) → a ≡ numberOf (r .answer) → o ≡ isLockable new → m .row ≡ new → m .number ≡ a → m .«is_open» ≡ o → Forms cs c bytes one m
+pub forms : (cs : List Bool) (c : BandColumns) (part bytes : List ℕ) (one : Row) (r : RowAnswer) (m : RowAfter) (new : Row) (a : ℕ) (o : Bool) → part ≡ bytes → SetsRow cs c part one r
+    → new ≡ settleRow cs (r .row) → a ≡ numberOf (r .answer) → o ≡ isLockable new → m .row ≡ new → m .number ≡ a → m .lockable ≡ o → LeavesRow cs c bytes one m
 forms cs c part bytes one r m new a o et h en ea eo er em eq = record {
   reply = r;
   sets = subst (λ (l : List ℕ). SetsRow cs c l one r) et h;
   number-is = em ∙ ea;
   row-is = er ∙ en;
-  open-is = eq ∙ eo ∙ ap (λ (row : Row). isLockable row) (sym er);
+  lockable-is = eq ∙ eo ∙ ap (λ (row : Row). isLockable row) (sym er);
 }
 
 -- ---- an elapse
@@ -78,13 +79,13 @@ module _ (n : ℕ) (l : List Sensor) where
   stops-steady o h e =
       cond-false (ltb 4294967295 n) _ _ _ (le-ltb 4294967295 n h) (ap (λ (b : Bool). b && ltb (quietTicks n l) n) (sym e))
 
-  pub pass-long : (r : Passing) → 4294967295 < n → r .sensors ≡ l → r .number ≡ 2 → r .stops ≡ 0 → PassesBy n l r
+  pub pass-long : (r : SensorsAfter) → 4294967295 < n → r .sensors ≡ l → r .number ≡ 2 → r .stops ≡ 0 → LeavesSensors n l r
   pass-long r h es en ez =
       let t : ltb 4294967295 n ≡ true = lt-ltb 4294967295 n h in
       record { number-is = cond-true _ _ _ _ t en; sensors-are = cond-true _ _ _ _ t es; stops-are = cond-true _ _ _ _ t ez }
 
-  pub pass-quiet : (r : Passing) (q : ℕ) (m : List Sensor) → n ≤ 4294967295 → q ≡ quietTicks n l → q ≡ n → m ≡ map (loweredBy n) l → r .sensors ≡ m → r .number ≡ 0 → r .stops ≡ 0
-      → PassesBy n l r
+  pub pass-quiet : (r : SensorsAfter) (q : ℕ) (m : List Sensor) → n ≤ 4294967295 → q ≡ quietTicks n l → q ≡ n → m ≡ map (loweredBy n) l → r .sensors ≡ m → r .number ≡ 0 → r .stops ≡ 0
+      → LeavesSensors n l r
   pass-quiet r q m h eq eqn em es en ez =
       let t : ltb 4294967295 n ≡ false = le-ltb 4294967295 n h in
       let c : AllQuiet n l = subst (λ (k : ℕ). AllQuiet k l) (sym eq ∙ eqn) (quietTicks-quiet n l) in
@@ -94,7 +95,7 @@ module _ (n : ℕ) (l : List Sensor) where
         stops-are = cond-false _ _ _ _ t (ez ∙ sym (quiet-stops (map sensorTick) (any endsNext) (λ k l. map (loweredBy k) l) AllQuiet sensors-jump n l c));
       }
 
-  pub pass-on : (r : Passing) (p : Passed) (z : ℕ) → n ≤ 4294967295 → Passes n l p → z ≡ p .stops → r .sensors ≡ p .sensors → r .number ≡ 0 → r .stops ≡ z → PassesBy n l r
+  pub pass-on : (r : SensorsAfter) (p : Passed) (z : ℕ) → n ≤ 4294967295 → Passes n l p → z ≡ p .stops → r .sensors ≡ p .sensors → r .number ≡ 0 → r .stops ≡ z → LeavesSensors n l r
   pass-on r p z h w e es en ez =
       let t : ltb 4294967295 n ≡ false = le-ltb 4294967295 n h in
       record {
@@ -104,15 +105,6 @@ module _ (n : ℕ) (l : List Sensor) where
       }
 
 -- the stops fit a byte: there are at most as many as sensors
-pub few-counted : {A : Type 0} (f : A → Bool) (l : List A) → count f l ≤ length l
-unfolding count
-few-counted f [] = omega arith
-few-counted f (x ∷ l) = omega (arith, few-counted f l, one (f x))
-  where
-    one : (b : Bool) → oneIf b ≤ 1
-    one true = omega arith
-    one false = omega arith
-
 pub passes-fits : (l : List Sensor) (n : ℕ) (r : Passed) → Passes n l r → r .stops ≤ length l
 passes-fits l n r p = omega (arith, p .few, few-counted runs l)
 

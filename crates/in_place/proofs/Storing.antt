@@ -9,13 +9,13 @@ use lib.Dec.{eqb, ltb}
 use lib.ListN.{length, getD, set}
 use borrow.Author.Tests.{le-ltb, ltb-false, ltb-true, eq-eqb, ne-eqb}
 use Rattle.base.specs.Lists.{oneIf, any}
-use Rattle.base.specs.Rows.{isRow, modify, Takes}
+use Rattle.base.specs.Rows.{isRow, modify}
 use Rattle.base.specs.Ticks.{ticks}
 use Rattle.base.specs.Ticks.{stops as stopsIn}
 use Rattle.base.proofs.Cases.{cond-true, cond-false, neither}
 use Rattle.base.proofs.Lists.{set-same}
 use Rattle.base.proofs.Jumps.{ticks-keep, quiet-ticks, quiet-stops}
-use Rattle.base.proofs.Rows.{modify-set, getD-any}
+use Rattle.base.proofs.Rows.{row-place, modify-set, getD-any}
 use Rattle.answer.specs.declared.Answer.{Answer}
 use Rattle.answer.specs.declared.Answer.the-variants.{NoRow, OutOfRange}
 use Rattle.answer.specs.Numbers.{numberOf}
@@ -45,6 +45,7 @@ use Rattle.drive.specs.declared.Reply.{Reply}
 use Rattle.drive.specs.State.{withRows, withSpans, withSensors, conditionsOf, settleOf, tickOf, stopNext}
 use Rattle.drive.specs.Events.{Event, reading, elapse, reset, sensorSet, bandSet, geometry, transfer}
 use Rattle.drive.specs.Events.{answerOf, actOf, stepOf, elapsedStops, stopsOf, sideOf, formedFrom, Replies}
+use Rattle.drive.proofs.Answers as A
 use Rattle.drive.proofs.Settling.{settle-with, tick-settled}
 use Rattle.elapse.specs.declared.Elapsed.{Elapsed}
 use Rattle.elapse.specs.Jumps.{Elapses}
@@ -52,27 +53,21 @@ use Rattle.elapse.specs.Parts.{jumpOf}
 use Rattle.elapse.proofs.Calm.{Calm, drive-jumps}
 use Rattle.row_set.specs.declared.RowAnswer.{RowAnswer}
 use Rattle.row_set.specs.Forming.{rowAnswer, SetsRow}
-use Rattle.events.specs.Parts.{refused}
-use Rattle.events.proofs.Arms.{row-place, row-there, behind, cond-not, row-answer, no-sensor-reading, no-sensor-set, no-band, elapse-refused, reset-refused, place-answer}
-use Rattle.in_place.specs.declared.inner.Moved.{Moved}
-use Rattle.in_place.specs.declared.inner.Formed.{Formed}
-use Rattle.in_place.specs.declared.inner.Passing.{Passing}
-use Rattle.in_place.specs.Course.{Kept}
-use Rattle.in_place.specs.Parts.{Moves, Forms, byStops, PassesBy}
-use Rattle.in_place.proofs.Keeping.{step-kept}
+use Rattle.in_place.specs.declared.SensorAfter.{SensorAfter}
+use Rattle.in_place.specs.declared.RowAfter.{RowAfter}
+use Rattle.in_place.specs.declared.SensorsAfter.{SensorsAfter}
+use Rattle.in_place.specs.Parts.{SettledSixteen, LeavesSensor, LeavesRow, byStops, LeavesSensors}
+use Rattle.in_place.proofs.Sixteen.{step-kept}
 
 -- an event run: the two bytes written for it, and the drive that it left
-pub record Ran (d : Drive) (e : Event) (a z : ℕ) (x : Drive) : Type 0 where
+pub record EventRan (d : Drive) (e : Event) (a z : ℕ) (x : Drive) : Type 0 where
   pub answer : a ≡ answerOf d e
   pub stops : z ≡ stopsOf d e
   pub drive : x ≡ stepOf d e
 
-from-reply : (d : Drive) (e : Event) (q : Reply) → Replies d e q → Ran d e (numberOf (q .answer)) (q .stops) (q .drive)
-from-reply d e q p = record { answer = p .answer; stops = p .stops; drive = p .drive }
-
 -- a refusal changes nothing
-refusal : (d : Drive) (e : Event) (a : Answer) → Replies d e (refused a d) → Ran d e (numberOf a) 0 d
-refusal d e a p = from-reply d e (refused a d) p
+refusal : (d : Drive) (e : Event) (n : ℕ) → n ≡ answerOf d e → eqb n 0 ≡ false → EventRan d e n 0 d
+refusal d e n p z = let r = A.refused-stays d e n p z in record { answer = p; stops = r .1; drive = r .0 }
 
 -- ---- what is still to lock once an event is stored
 
@@ -101,21 +96,21 @@ finish-steady t y e =
 
 -- An event stored: its two bytes; and the drive that is what the event makes of it once a reset of type t and settling have locked the rows.
 -- Nothing is to lock where that is not due, or where no row may be open.
-pub record Half (d : Drive) (e : Event) (a z : ℕ) (y : Drive) (mayBeOpen due : Bool) (t : ℕ) : Type 0 where
+pub record EventStored (d : Drive) (e : Event) (a z : ℕ) (y : Drive) (mayBeLockable due : Bool) (t : ℕ) : Type 0 where
   pub answer : a ≡ answerOf d e
   pub stops : z ≡ stopsOf d e
   pub whole : finishOf t y ≡ stepOf d e
   pub calm : due ≡ false → finishOf t y ≡ y
-  pub flag : mayBeOpen ≡ false → any isLockable (y .rows) ≡ false
+  pub flag : mayBeLockable ≡ false → any isLockable (y .rows) ≡ false
 
 -- an event whose drive is settled already
-whole-half : (d : Drive) (e : Event) (a z : ℕ) (y : Drive) (o due : Bool) (t : ℕ) → Kept d → 2 < t → Ran d e a z y → (o ≡ false → any isLockable (y .rows) ≡ false) → Half d e a z y o due t
+whole-half : (d : Drive) (e : Event) (a z : ℕ) (y : Drive) (o due : Bool) (t : ℕ) → SettledSixteen d → 2 < t → EventRan d e a z y → (o ≡ false → any isLockable (y .rows) ≡ false) → EventStored d e a z y o due t
 whole-half d e a z y o due t k h r f =
     let w : finishOf t y ≡ y = finish-none t y h ∙ ap settleOf (r .drive) ∙ step-kept d e k .settled ∙ sym (r .drive) in
     record { answer = r .answer; stops = r .stops; whole = w ∙ r .drive; calm = λ _. w; flag = f }
 
 -- nothing is to lock
-pub half-idle : {d : Drive} {e : Event} {a z : ℕ} {y : Drive} {o due u : Bool} {t : ℕ} → Half d e a z y o due t → u ≡ (o && due) → u ≡ false → Ran d e a z y
+pub half-idle : {d : Drive} {e : Event} {a z : ℕ} {y : Drive} {o due u : Bool} {t : ℕ} → EventStored d e a z y o due t → u ≡ (o && due) → u ≡ false → EventRan d e a z y
 half-idle {y = y} {o = o} {due = due} {t = t} h p q = record { answer = h .answer; stops = h .stops; drive = sym (go o due refl refl (sym p ∙ q)) ∙ h .whole }
   where
     go : (x w : Bool) → o ≡ x → due ≡ w → (x && w) ≡ false → finishOf t y ≡ y
@@ -125,7 +120,7 @@ half-idle {y = y} {o = o} {due = due} {t = t} h p q = record { answer = h .answe
 
 -- an event with no stops, from its answer and from what it stores before the bands settle
 stored : (d : Drive) (e : Event) (n : ℕ) (x y : Drive) → settleOf d ≡ d → n ≡ answerOf d e → elapsedStops d e ≡ 0
-    → (eqb n 0 ≡ true → y ≡ actOf d e) → (eqb n 0 ≡ false → y ≡ d) → x ≡ settleOf y → Ran d e n 0 x
+    → (eqb n 0 ≡ true → y ≡ actOf d e) → (eqb n 0 ≡ false → y ≡ d) → x ≡ settleOf y → EventRan d e n 0 x
 unfolding stepOf stopsOf
 stored d e n x y s p z does not-done q = record {
   answer = p;
@@ -164,17 +159,17 @@ unturned false false e = refl
 
 -- ---- a sensor's events
 
-module _ (d : Drive) (k : Kept d) (s : ℕ) (t : Bool) (p : t ≡ not (isRow (d .«sensor_count») s)) (e : t ≡ false) (y : Sensor) where
+module _ (d : Drive) (k : SettledSixteen d) (s : ℕ) (t : Bool) (p : t ≡ not (isRow (d .«sensor_count») s)) (e : t ≡ false) (y : Sensor) where
   within : s < length (d .sensors)
   within = omega (arith, k .sensors, row-place (d .«sensor_count») s t p e)
 
   -- an event that makes f of the sensor, and n its answer
   module _ (ev : Event) (f : Sensor → Sensor) (n : ℕ) (ea : n ≡ answerOf d ev) (ez : elapsedStops d ev ≡ 0) (eact : withSensors (modify f s (d .sensors)) d ≡ actOf d ev)
-      (stays : eqb n 0 ≡ false → f (getD (d .sensors) s y) ≡ getD (d .sensors) s y) (m : Moved) (h : Moves n (f (getD (d .sensors) s y)) (getD (d .sensors) s y) m) where
+      (stays : eqb n 0 ≡ false → f (getD (d .sensors) s y) ≡ getD (d .sensors) s y) (m : SensorAfter) (h : LeavesSensor n (f (getD (d .sensors) s y)) (getD (d .sensors) s y) m) where
     held : Drive
     held = withSensors (set (d .sensors) s (m .sensor)) d
 
-    sensor-half : (o : Bool) (w : ℕ) → 2 < w → (o ≡ false → any isLockable (d .rows) ≡ false) → Half d ev (m .number) 0 held o (m .turned) w
+    sensor-half : (o : Bool) (w : ℕ) → 2 < w → (o ≡ false → any isLockable (d .rows) ≡ false) → EventStored d ev (m .number) 0 held o (m .turned) w
     unfolding held
     sensor-half o w g fl = record {
       answer = h .number-is ∙ ea;
@@ -187,51 +182,51 @@ module _ (d : Drive) (k : Kept d) (s : ℕ) (t : Bool) (p : t ≡ not (isRow (d 
       flag = fl;
     }
       where
-        r : Ran d ev n 0 (settleOf held)
+        r : EventRan d ev n 0 (settleOf held)
         r = stored d ev n (settleOf held) held (k .settled) ea ez
             (λ _. ap (λ (l : List Sensor). withSensors l d) (modify-set f (d .sensors) s y (m .sensor) (h .sensor-is) within) ∙ eact)
             (λ q. ap (λ (v : Sensor). withSensors (set (d .sensors) s v) d) (h .sensor-is ∙ stays q) ∙ ap (λ (l : List Sensor). withSensors l d) (set-same (d .sensors) s y))
             refl
 
-  pub reading-half : (v : ℕ) (m : Moved) (o : Bool) (w : ℕ) → Moves (readingAnswer v) (readingOf v (getD (d .sensors) s y)) (getD (d .sensors) s y) m → 2 < w → (o ≡ false → any isLockable (d .rows) ≡ false)
-      → Half d (reading s v) (m .number) 0 (withSensors (set (d .sensors) s (m .sensor)) d) o (m .turned) w
-  unfolding held actOf answerOf readingOf
+  pub reading-half : (v : ℕ) (m : SensorAfter) (o : Bool) (w : ℕ) → LeavesSensor (readingAnswer v) (readingOf v (getD (d .sensors) s y)) (getD (d .sensors) s y) m → 2 < w → (o ≡ false → any isLockable (d .rows) ≡ false)
+      → EventStored d (reading s v) (m .number) 0 (withSensors (set (d .sensors) s (m .sensor)) d) o (m .turned) w
+  unfolding held actOf readingOf
   reading-half v m o w h =
       sensor-half (reading s v) (readingOf v) (readingAnswer v)
-      (behind (isRow (d .«sensor_count») s) _ (readingAnswer v) 1 (row-there (d .«sensor_count») s t p e) refl) refl refl
+      (A.reading-answered d s t p v e) refl refl
       (go (ltb greatestReading v) (getD (d .sensors) s y) (turnedTo (judgeOf v (getD (d .sensors) s y)) (getD (d .sensors) s y))) m h o w
     where
       go : (b : Bool) (x z : Sensor) → eqb (cond b 2 0) 0 ≡ false → cond b x z ≡ x
       go true x z q = refl
       go false x z q = absurd (true≢false q)
 
-  pub set-half : (c : SensorColumns) (m : Moved) (o : Bool) (w : ℕ) → Moves (setAnswer c) (setOf c (getD (d .sensors) s y)) (getD (d .sensors) s y) m → 2 < w → (o ≡ false → any isLockable (d .rows) ≡ false)
-      → Half d (sensorSet s c) (m .number) 0 (withSensors (set (d .sensors) s (m .sensor)) d) o (m .turned) w
-  unfolding held actOf answerOf setOf
+  pub set-half : (c : SensorColumns) (m : SensorAfter) (o : Bool) (w : ℕ) → LeavesSensor (setAnswer c) (setOf c (getD (d .sensors) s y)) (getD (d .sensors) s y) m → 2 < w → (o ≡ false → any isLockable (d .rows) ≡ false)
+      → EventStored d (sensorSet s c) (m .number) 0 (withSensors (set (d .sensors) s (m .sensor)) d) o (m .turned) w
+  unfolding held actOf setOf
   set-half c m o w h =
       sensor-half (sensorSet s c) (setOf c) (setAnswer c)
-      (behind (isRow (d .«sensor_count») s) _ _ 1 (row-there (d .«sensor_count») s t p e) (cond-not (sensorColumnsFit c) 0 2)) refl refl
+      (A.set-answered d s t p c e) refl refl
       (go (sensorColumnsFit c) (getD (d .sensors) s y) (switchedOf c (storedOf c (getD (d .sensors) s y)))) m h o w
     where
-      go : (b : Bool) (x z : Sensor) → eqb (cond b 0 2) 0 ≡ false → cond b z x ≡ x
+      go : (b : Bool) (x z : Sensor) → eqb (cond (not b) 2 0) 0 ≡ false → cond b z x ≡ x
       go false x z q = refl
       go true x z q = absurd (true≢false q)
 
 -- a row that is not there
-module _ (d : Drive) (k : Kept d) (o due : Bool) (w : ℕ) (g : 2 < w) (fl : o ≡ false → any isLockable (d .rows) ≡ false) (t : Bool) where
-  pub reading-absent : (s v : ℕ) → t ≡ not (isRow (d .«sensor_count») s) → t ≡ true → Half d (reading s v) 1 0 d o due w
-  reading-absent s v p e = whole-half d (reading s v) 1 0 d o due w k g (refusal d (reading s v) NoRow (no-sensor-reading d s v t (refused NoRow d) p e refl)) fl
+module _ (d : Drive) (k : SettledSixteen d) (o due : Bool) (w : ℕ) (g : 2 < w) (fl : o ≡ false → any isLockable (d .rows) ≡ false) (t : Bool) where
+  pub reading-absent : (s v : ℕ) → t ≡ not (isRow (d .«sensor_count») s) → t ≡ true → EventStored d (reading s v) 1 0 d o due w
+  reading-absent s v p e = whole-half d (reading s v) 1 0 d o due w k g (refusal d (reading s v) 1 (A.no-sensor-reading d s t p v e) refl) fl
 
-  pub set-absent : (s : ℕ) (c : SensorColumns) → t ≡ not (isRow (d .«sensor_count») s) → t ≡ true → Half d (sensorSet s c) 1 0 d o due w
-  set-absent s c p e = whole-half d (sensorSet s c) 1 0 d o due w k g (refusal d (sensorSet s c) NoRow (no-sensor-set d s c t (refused NoRow d) p e refl)) fl
+  pub set-absent : (s : ℕ) (c : SensorColumns) → t ≡ not (isRow (d .«sensor_count») s) → t ≡ true → EventStored d (sensorSet s c) 1 0 d o due w
+  set-absent s c p e = whole-half d (sensorSet s c) 1 0 d o due w k g (refusal d (sensorSet s c) 1 (A.no-sensor-set d s t p c e) refl) fl
 
-  pub band-absent : (b : ℕ) (c : BandColumns) (bytes : List ℕ) → t ≡ not (isRow (d .«band_count») b) → t ≡ true → Half d (bandSet b c bytes) 1 0 d o due w
-  band-absent b c bytes p e = whole-half d (bandSet b c bytes) 1 0 d o due w k g (refusal d (bandSet b c bytes) NoRow (no-band d b c bytes t (refused NoRow d) p e refl)) fl
+  pub band-absent : (b : ℕ) (c : BandColumns) (bytes : List ℕ) → t ≡ not (isRow (d .«band_count») b) → t ≡ true → EventStored d (bandSet b c bytes) 1 0 d o due w
+  band-absent b c bytes p e = whole-half d (bandSet b c bytes) 1 0 d o due w k g (refusal d (bandSet b c bytes) 1 (A.no-band d b c bytes t p e) refl) fl
 
 -- ---- elapse
 
 -- an elapse in range, from the drive after its ticks, which is settled
-elapsed : (d : Drive) (n z : ℕ) (x : Drive) → settleOf d ≡ d → n ≤ 4294967295 → z ≡ stopsIn tickOf stopNext n d → x ≡ ticks tickOf n d → Ran d (elapse n) 0 z x
+elapsed : (d : Drive) (n z : ℕ) (x : Drive) → settleOf d ≡ d → n ≤ 4294967295 → z ≡ stopsIn tickOf stopNext n d → x ≡ ticks tickOf n d → EventRan d (elapse n) 0 z x
 unfolding answerOf stepOf stopsOf actOf
 elapsed d n z x s h ez ex = record {
   answer = zero-answer;
@@ -259,8 +254,8 @@ pub stops-short : (o : Bool) (n : ℕ) (l : List Sensor) (t : Bool) → t ≡ by
 stops-short o n l t p e = stops-told o n l (sym p ∙ e) .1
 
 -- from stop to stop, with the bands settled at each
-pub elapse-half : (d : Drive) (k : Kept d) (n z : ℕ) (r : Elapsed) (o t : Bool) (w : ℕ) → 2 < w → t ≡ byStops o n (d .sensors) → t ≡ true → Elapses n d r → z ≡ r .stops
-    → Half d (elapse n) 0 z (r .drive) o true w
+pub elapse-half : (d : Drive) (k : SettledSixteen d) (n z : ℕ) (r : Elapsed) (o t : Bool) (w : ℕ) → 2 < w → t ≡ byStops o n (d .sensors) → t ≡ true → Elapses n d r → z ≡ r .stops
+    → EventStored d (elapse n) 0 z (r .drive) o true w
 elapse-half d k n z r o t w g p e h ez =
     let q = stops-told o n (d .sensors) (sym p ∙ e) in
     whole-half d (elapse n) 0 z (r .drive) o true w k g (elapsed d n z (r .drive) (k .settled) (q .1) (ez ∙ h .stops) (h .drive)) (λ f. absurd (true≢false (sym (q .0) ∙ f)))
@@ -284,12 +279,12 @@ module _ (d : Drive) (o : any isLockable (d .rows) ≡ false) where
       (ap (λ (x : Drive). stopsIn tickOf stopNext n x) (steady-tick l) ∙ steady-stops n (map sensorTick l))
 
 -- the sensors alone: no row is open, or no timer ends
-pub pass-half : (d : Drive) (k : Kept d) (n : ℕ) (r : Passing) (o t due : Bool) (w : ℕ) → 2 < w → (o ≡ false → any isLockable (d .rows) ≡ false) → t ≡ byStops o n (d .sensors) → t ≡ false → PassesBy n (d .sensors) r
-    → Half d (elapse n) (r .number) (r .stops) (withSensors (r .sensors) d) o due w
+pub pass-half : (d : Drive) (k : SettledSixteen d) (n : ℕ) (r : SensorsAfter) (o t due : Bool) (w : ℕ) → 2 < w → (o ≡ false → any isLockable (d .rows) ≡ false) → t ≡ byStops o n (d .sensors) → t ≡ false → LeavesSensors n (d .sensors) r
+    → EventStored d (elapse n) (r .number) (r .stops) (withSensors (r .sensors) d) o due w
 unfolding byStops jumpOf
 pass-half d k n r o t due w g fl p e h = go o (ltb 4294967295 n) refl refl
   where
-    from : (y : Drive) → Ran d (elapse n) (r .number) (r .stops) y → y ≡ withSensors (r .sensors) d → Half d (elapse n) (r .number) (r .stops) (withSensors (r .sensors) d) o due w
+    from : (y : Drive) → EventRan d (elapse n) (r .number) (r .stops) y → y ≡ withSensors (r .sensors) d → EventStored d (elapse n) (r .number) (r .stops) (withSensors (r .sensors) d) o due w
     from y v q = whole-half d (elapse n) (r .number) (r .stops) (withSensors (r .sensors) d) o due w k g (rw (← q) v) fl
 
     number-in : (b : Bool) → ltb 4294967295 n ≡ b → r .number ≡ cond b 2 0
@@ -303,13 +298,13 @@ pass-half d k n r o t due w g fl p e h = go o (ltb 4294967295 n) refl refl
 
     -- the sensors' ticks are the drive's
     alone : n ≤ 4294967295 → ltb 4294967295 n ≡ false → withSensors (ticks (map sensorTick) n (d .sensors)) d ≡ ticks tickOf n d
-        → stopsIn (map sensorTick) (any endsNext) n (d .sensors) ≡ stopsIn tickOf stopNext n d → Half d (elapse n) (r .number) (r .stops) (withSensors (r .sensors) d) o due w
+        → stopsIn (map sensorTick) (any endsNext) n (d .sensors) ≡ stopsIn tickOf stopNext n d → EventStored d (elapse n) (r .number) (r .stops) (withSensors (r .sensors) d) o due w
     alone b q ex ez =
         from (withSensors (r .sensors) d)
         (rw (number-in false q) (elapsed d n (r .stops) (withSensors (r .sensors) d) (k .settled) b (stops-in false q ∙ ez) (ap (λ (l : List Sensor). withSensors l d) (sensors-in false q) ∙ ex)))
         refl
 
-    quiet : quietTicks n (d .sensors) ≡ n → ltb 4294967295 n ≡ false → Half d (elapse n) (r .number) (r .stops) (withSensors (r .sensors) d) o due w
+    quiet : quietTicks n (d .sensors) ≡ n → ltb 4294967295 n ≡ false → EventStored d (elapse n) (r .number) (r .stops) (withSensors (r .sensors) d) o due w
     quiet en q =
         let a : AllQuiet n (d .sensors) = subst (λ (m : ℕ). AllQuiet m (d .sensors)) en (quietTicks-quiet n (d .sensors)) in
         let c : Calm n d = record { settled = k .settled; timers = a } in
@@ -317,9 +312,9 @@ pass-half d k n r o t due w g fl p e h = go o (ltb 4294967295 n) refl refl
         (ap (λ (l : List Sensor). withSensors l d) (quiet-ticks (map sensorTick) (any endsNext) (λ k l. map (loweredBy k) l) AllQuiet sensors-jump n (d .sensors) a) ∙ sym (quiet-ticks tickOf stopNext jumpOf Calm drive-jumps n d c))
         (quiet-stops (map sensorTick) (any endsNext) (λ k l. map (loweredBy k) l) AllQuiet sensors-jump n (d .sensors) a ∙ sym (quiet-stops tickOf stopNext jumpOf Calm drive-jumps n d c))
 
-    go : (x b : Bool) → o ≡ x → ltb 4294967295 n ≡ b → Half d (elapse n) (r .number) (r .stops) (withSensors (r .sensors) d) o due w
+    go : (x b : Bool) → o ≡ x → ltb 4294967295 n ≡ b → EventStored d (elapse n) (r .number) (r .stops) (withSensors (r .sensors) d) o due w
     go x true eo q =
-        from d (rw (number-in true q, stops-in true q) (refusal d (elapse n) OutOfRange (elapse-refused d n (refused OutOfRange d) (ltb-true 4294967295 n q) refl)))
+        from d (rw (number-in true q, stops-in true q) (refusal d (elapse n) 2 (A.elapse-refused d n (ltb-true 4294967295 n q)) refl))
         (ap (λ (l : List Sensor). withSensors l d) (sym (sensors-in true q)))
     go false false eo q =
         let c = fl eo in
@@ -330,12 +325,12 @@ pass-half d k n r o t due w g fl p e h = go o (ltb 4294967295 n) refl refl
 
 -- ---- reset
 
-reset-half : (d : Drive) (k : Kept d) (t : ℕ) (l : List Sensor) (a : ℕ) (o : Bool) → (o ≡ false → any isLockable (d .rows) ≡ false) → a ≡ cond (ltb 2 t) 2 0
-    → l ≡ cond (eqb t 0) (map powerCycleOf (d .sensors)) (d .sensors) → Half d (reset t) a 0 (withSensors l d) o true t
+reset-half : (d : Drive) (k : SettledSixteen d) (t : ℕ) (l : List Sensor) (a : ℕ) (o : Bool) → (o ≡ false → any isLockable (d .rows) ≡ false) → a ≡ cond (ltb 2 t) 2 0
+    → l ≡ cond (eqb t 0) (map powerCycleOf (d .sensors)) (d .sensors) → EventStored d (reset t) a 0 (withSensors l d) o true t
 unfolding finishOf actOf answerOf
 reset-half d k t l a o fl ea el = go (ltb 2 t) refl
   where
-    go : (b : Bool) → ltb 2 t ≡ b → Half d (reset t) a 0 (withSensors l d) o true t
+    go : (b : Bool) → ltb 2 t ≡ b → EventStored d (reset t) a 0 (withSensors l d) o true t
     go false q =
         let r = stored d (reset t) 0 _ _ (k .settled) (cond-false (ltb 2 t) _ _ _ q refl) refl (λ _. refl) (λ z. absurd (true≢false z)) refl in
         record {
@@ -347,7 +342,7 @@ reset-half d k t l a o fl ea el = go (ltb 2 t) refl
         }
     go true q =
         let h : 2 < t = ltb-true 2 t q in
-        let r = refusal d (reset t) OutOfRange (reset-refused d t (refused OutOfRange d) h refl) in
+        let r = refusal d (reset t) 2 (A.reset-refused d t h) refl in
         let s : withSensors l d ≡ d = ap (λ (m : List Sensor). withSensors m d) (el ∙ ap (λ (x : Bool). cond x (map powerCycleOf (d .sensors)) (d .sensors)) (ne-eqb t 0 (λ z. omega (arith, h, z)))) in
         record {
           answer = ea ∙ ap (λ (x : Bool). cond x 2 0) q ∙ r .answer;
@@ -357,11 +352,11 @@ reset-half d k t l a o fl ea el = go (ltb 2 t) refl
           flag = fl;
         }
 
-pub reset-cycle : (d : Drive) (k : Kept d) (t : ℕ) (l : List Sensor) (a : ℕ) (o : Bool) → (o ≡ false → any isLockable (d .rows) ≡ false) → a ≡ cond (ltb 2 t) 2 0 → t ≡ 0 → l ≡ map powerCycleOf (d .sensors)
-    → Half d (reset t) a 0 (withSensors l d) o true t
+pub reset-cycle : (d : Drive) (k : SettledSixteen d) (t : ℕ) (l : List Sensor) (a : ℕ) (o : Bool) → (o ≡ false → any isLockable (d .rows) ≡ false) → a ≡ cond (ltb 2 t) 2 0 → t ≡ 0 → l ≡ map powerCycleOf (d .sensors)
+    → EventStored d (reset t) a 0 (withSensors l d) o true t
 reset-cycle d k t l a o fl ea z el = reset-half d k t l a o fl ea (cond-true (eqb t 0) _ _ _ (eq-eqb t 0 z) el)
 
-pub reset-other : (d : Drive) (k : Kept d) (t : ℕ) (a : ℕ) (o : Bool) → (o ≡ false → any isLockable (d .rows) ≡ false) → a ≡ cond (ltb 2 t) 2 0 → t ≢ 0 → Half d (reset t) a 0 d o true t
+pub reset-other : (d : Drive) (k : SettledSixteen d) (t : ℕ) (a : ℕ) (o : Bool) → (o ≡ false → any isLockable (d .rows) ≡ false) → a ≡ cond (ltb 2 t) 2 0 → t ≢ 0 → EventStored d (reset t) a 0 d o true t
 reset-other d k t a o fl ea z = reset-half d k t (d .sensors) a o fl ea (cond-false (eqb t 0) _ _ _ (ne-eqb t 0 z) refl)
 
 -- ---- band Set
@@ -375,7 +370,7 @@ settled-rows : (d : Drive) → settleOf d ≡ d → map (settleRow (conditionsOf
 unfolding settleOf
 settled-rows d s = ap (λ (x : Drive). x .rows) s
 
-module _ (d : Drive) (k : Kept d) (b : ℕ) (c : BandColumns) (bytes : List ℕ) (t : Bool) (p : t ≡ not (isRow (d .«band_count») b)) (e : t ≡ false) (y : Row) (cs : List Bool) (ec : cs ≡ conditionsBelow (d .«sensor_count») (d .sensors)) (r : RowAnswer) (h : SetsRow cs c bytes (getD (d .rows) b y) r) where
+module _ (d : Drive) (k : SettledSixteen d) (b : ℕ) (c : BandColumns) (bytes : List ℕ) (t : Bool) (p : t ≡ not (isRow (d .«band_count») b)) (e : t ≡ false) (y : Row) (cs : List Bool) (ec : cs ≡ conditionsBelow (d .«sensor_count») (d .sensors)) (r : RowAnswer) (h : SetsRow cs c bytes (getD (d .rows) b y) r) where
   inside : b < length (d .rows)
   inside = omega (arith, k .rows, row-place (d .«band_count») b t p e)
 
@@ -383,8 +378,10 @@ module _ (d : Drive) (k : Kept d) (b : ℕ) (c : BandColumns) (bytes : List ℕ)
   unfolding conditionsOf
   conditions-are = ec
 
-  takes : Takes (d .rows) b freshRow (getD (d .rows) b y)
-  takes = record { long = k .rows; element = getD-any (d .rows) b y freshRow inside }
+  row-answered : rowAnswer cs c bytes (getD (d .rows) b y) ≡ answerOf d (bandSet b c bytes)
+  unfolding rowAnswer
+  row-answered =
+      ap₂ (λ (x : List Bool) (z : Row). rowAnswer x c bytes z) conditions-are (getD-any (d .rows) b y freshRow inside) ∙ A.band-answered d b c bytes t p e
 
   -- what is stored, before the bands settle: where the Set is refused, the row that was there
   unsettled : Drive
@@ -397,11 +394,11 @@ module _ (d : Drive) (k : Kept d) (b : ℕ) (c : BandColumns) (bytes : List ℕ)
       (map-set (settleRow (conditionsOf d)) (d .rows) b (r .row)
       ∙ ap₂ (λ (rows : List Row) (w : List Bool). set rows b (settleRow w (r .row))) (settled-rows d (k .settled)) (sym conditions-are))
 
-  band-ran : (a : ℕ) (new : Row) (x : Drive) → a ≡ numberOf (r .answer) → new ≡ settleRow cs (r .row) → x ≡ withRows (set (d .rows) b new) d → Ran d (bandSet b c bytes) a 0 x
+  band-ran : (a : ℕ) (new : Row) (x : Drive) → a ≡ numberOf (r .answer) → new ≡ settleRow cs (r .row) → x ≡ withRows (set (d .rows) b new) d → EventRan d (bandSet b c bytes) a 0 x
   unfolding unsettled actOf
   band-ran a new x ea en ex =
       stored d (bandSet b c bytes) a x unsettled (k .settled)
-      (ea ∙ row-answer d b c bytes (getD (d .rows) b y) cs r (refused (r .answer) d) t p e takes conditions-are h) refl
+      (ea ∙ h .answer ∙ row-answered) refl
       (λ z. ap (λ (rows : List Row). withRows rows d)
       (modify-set (formedFrom c bytes) (d .rows) b y (r .row) (h .after ∙ cond-pick (eqb (rowAnswer cs c bytes (getD (d .rows) b y)) 0) (same z)) inside))
       (λ z. ap (λ (rows : List Row). withRows rows d)
@@ -429,13 +426,13 @@ set-steady (row ∷ rows) (suc i) v e f =
     ap₂ (λ (a b : Bool). a || b) (h .0) (set-steady rows i v (h .1) f)
 
 -- with the flag: it is set where the new row is open
-pub band-half : (d : Drive) (k : Kept d) (b : ℕ) (c : BandColumns) (bytes : List ℕ) (t : Bool) (y : Row) (cs : List Bool) (m : Formed) (o o' due : Bool) (w : ℕ)
+pub band-half : (d : Drive) (k : SettledSixteen d) (b : ℕ) (c : BandColumns) (bytes : List ℕ) (t : Bool) (y : Row) (cs : List Bool) (m : RowAfter) (o o' due : Bool) (w : ℕ)
     → 2 < w → (o ≡ false → any isLockable (d .rows) ≡ false) → t ≡ not (isRow (d .«band_count») b) → t ≡ false → cs ≡ conditionsBelow (d .«sensor_count») (d .sensors)
-    → Forms cs c bytes (getD (d .rows) b y) m → o' ≡ (o || m .«is_open») → Half d (bandSet b c bytes) (m .number) 0 (withRows (set (d .rows) b (m .row)) d) o' due w
+    → LeavesRow cs c bytes (getD (d .rows) b y) m → o' ≡ (o || m .lockable) → EventStored d (bandSet b c bytes) (m .number) 0 (withRows (set (d .rows) b (m .row)) d) o' due w
 band-half d k b c bytes t y cs m o o' due w g fl p e ec h eo =
     whole-half d (bandSet b c bytes) (m .number) 0 (withRows (set (d .rows) b (m .row)) d) o' due w k g
     (band-ran d k b c bytes t p e y cs ec (h .reply) (h .sets) (m .number) (m .row) _ (h .number-is) (h .row-is) refl)
-    (λ z. let q = neither o (m .«is_open») (sym eo ∙ z) in set-steady (d .rows) b (m .row) (fl (q .0)) (sym (h .open-is) ∙ q .1))
+    (λ z. let q = neither o (m .lockable) (sym eo ∙ z) in set-steady (d .rows) b (m .row) (fl (q .0)) (sym (h .lockable-is) ∙ q .1))
 
 -- ---- geometry and transfer
 
@@ -443,12 +440,12 @@ spans-settle : (d : Drive) (l : List Span) → settleOf d ≡ d → settleOf (wi
 unfolding settleOf conditionsOf
 spans-settle d l s = ap (λ (x : Drive). withSpans l x) s
 
-pub geometry-half : (d : Drive) (k : Kept d) (b start n : ℕ) (r : Placed) (a : ℕ) (o due : Bool) (w : ℕ) → 2 < w → (o ≡ false → any isLockable (d .rows) ≡ false)
-    → Places (d .capacity) (d .«band_count») (d .spans) b start n r → a ≡ numberOf (r .answer) → Half d (geometry b start n) a 0 (withSpans (r .spans) d) o due w
+pub geometry-half : (d : Drive) (k : SettledSixteen d) (b start n : ℕ) (r : Placed) (a : ℕ) (o due : Bool) (w : ℕ) → 2 < w → (o ≡ false → any isLockable (d .rows) ≡ false)
+    → Places (d .capacity) (d .«band_count») (d .spans) b start n r → a ≡ numberOf (r .answer) → EventStored d (geometry b start n) a 0 (withSpans (r .spans) d) o due w
 unfolding placeOf actOf
 geometry-half d k b start n r a o due w g fl h ea =
     whole-half d (geometry b start n) a 0 (withSpans (r .spans) d) o due w k g
-    (stored d (geometry b start n) a (withSpans (r .spans) d) (withSpans (r .spans) d) (k .settled) (ea ∙ h .answer ∙ place-answer d b start n) refl
+    (stored d (geometry b start n) a (withSpans (r .spans) d) (withSpans (r .spans) d) (k .settled) (ea ∙ h .answer ∙ A.geometry-answered d b start n) refl
     (λ z. ap (λ (l : List Span). withSpans l d) (h .after ∙ ap (λ (x : Bool). cond x (placed (d .spans) b start n) (d .spans)) (alike true z)))
     (λ z. ap (λ (l : List Span). withSpans l d) (h .after ∙ ap (λ (x : Bool). cond x (placed (d .spans) b start n) (d .spans)) (alike false z)))
     (sym (spans-settle d (r .spans) (k .settled))))
@@ -457,8 +454,8 @@ geometry-half d k b start n r a o due w g fl h ea =
     alike : (x : Bool) → eqb a 0 ≡ x → eqb (placeAnswer (d .capacity) (d .«band_count») (d .spans) b start n) 0 ≡ x
     alike x z = ap (λ (m : ℕ). eqb m 0) (sym (h .answer) ∙ sym ea) ∙ z
 
-pub transfer-half : (d : Drive) (k : Kept d) (v start n : ℕ) (side : Side) (closed : List Bool) (a : ℕ) (o due : Bool) (w : ℕ) → 2 < w → (o ≡ false → any isLockable (d .rows) ≡ false) → side ≡ sideOf v
-    → closed ≡ map (closedOn side) (d .rows) → a ≡ cond (ltb 1 v) 2 (transferAnswer (d .capacity) (d .«band_count») (d .spans) closed start n) → Half d (transfer v start n) a 0 d o due w
+pub transfer-half : (d : Drive) (k : SettledSixteen d) (v start n : ℕ) (side : Side) (closed : List Bool) (a : ℕ) (o due : Bool) (w : ℕ) → 2 < w → (o ≡ false → any isLockable (d .rows) ≡ false) → side ≡ sideOf v
+    → closed ≡ map (closedOn side) (d .rows) → a ≡ cond (ltb 1 v) 2 (transferAnswer (d .capacity) (d .«band_count») (d .spans) closed start n) → EventStored d (transfer v start n) a 0 d o due w
 unfolding actOf answerOf transferAnswer
 transfer-half d k v start n side closed a o due w g fl es ec ea =
     whole-half d (transfer v start n) a 0 d o due w k g

@@ -1,9 +1,10 @@
--- What the run takes from its parts: one sensor's events, a Set of one row, and an elapse of the sensors alone.
+-- What the run keeps of its drive, and what it takes from its parts: one sensor's events, a Set of one row, and an elapse of the sensors alone.
 use Prim.Native.Nat.{ℕ}
 use mathlib.Core.Path.{_≡_}
 use mathlib.Core.Bool.{Bool, false, not, cond, _&&_, Bool·beq}
 use mathlib.Core.List.{List, map}
 use lib.Dec.{ltb}
+use lib.ListN.{length}
 use Rattle.base.specs.Lists.{any}
 use Rattle.base.specs.Ticks.{ticks, stops}
 use Rattle.answer.specs.Numbers.{numberOf}
@@ -14,36 +15,44 @@ use Rattle.band.specs.declared.Row.{Row}
 use Rattle.band.specs.declared.BandColumns.{BandColumns}
 use Rattle.band.specs.Rows.{settleRow}
 use Rattle.band.specs.Parts.{isLockable}
+use Rattle.drive.specs.declared.Drive.{Drive}
+use Rattle.drive.specs.State.{settleOf}
 use Rattle.row_set.specs.declared.RowAnswer.{RowAnswer}
 use Rattle.row_set.specs.Forming.{SetsRow}
-use Rattle.in_place.specs.declared.inner.Moved.{Moved}
-use Rattle.in_place.specs.declared.inner.Formed.{Formed}
-use Rattle.in_place.specs.declared.inner.Passing.{Passing}
+use Rattle.in_place.specs.declared.SensorAfter.{SensorAfter}
+use Rattle.in_place.specs.declared.RowAfter.{RowAfter}
+use Rattle.in_place.specs.declared.SensorsAfter.{SensorsAfter}
+
+-- sixteen rows and sensors, and bands that are settled
+pub record SettledSixteen (d : Drive) : Type 0 where
+  pub rows : length (d .rows) ≡ 16
+  pub sensors : length (d .sensors) ≡ 16
+  pub settled : settleOf d ≡ d
 
 -- an event on one sensor: the answer's number, what is stored, and whether its condition is another then
-pub record Moves (answer : ℕ) (new one : Sensor) (r : Moved) : Type 0 where
+pub record LeavesSensor (answer : ℕ) (new one : Sensor) (r : SensorAfter) : Type 0 where
   pub number-is : r .number ≡ answer
   pub sensor-is : r .sensor ≡ new
   pub turned-is : r .turned ≡ not (Bool·beq (one .condition) (new .condition))
 
--- a Set of one row, which then settles: the answer's number, what is stored, and whether it is open
-pub record Forms (conditions : List Bool) (columns : BandColumns) (bytes : List ℕ) (one : Row) (r : Formed) : Type 0 where
+-- a Set of one row, which then settles: the answer's number, what is stored, and whether it has a side to lock
+pub record LeavesRow (conditions : List Bool) (columns : BandColumns) (bytes : List ℕ) (one : Row) (r : RowAfter) : Type 0 where
   pub reply : RowAnswer
   pub sets : SetsRow conditions columns bytes one reply
   pub number-is : r .number ≡ numberOf (reply .answer)
   pub row-is : r .row ≡ settleRow conditions (reply .row)
-  pub open-is : r .«is_open» ≡ isLockable (r .row)
+  pub lockable-is : r .lockable ≡ isLockable (r .row)
 
 -- "2 out of range": an elapse has at most 4,294,967,295 ticks
 abbrev pub tooManyTicks : ℕ → Bool
 tooManyTicks n = ltb 4294967295 n
 
--- a timer ends in an elapse while a row may be open
+-- a timer ends in an elapse while a row may be lockable
 unfoldable pub byStops : Bool → ℕ → List Sensor → Bool
-byStops mayBeOpen n l = cond (tooManyTicks n) false (mayBeOpen && ltb (quietTicks n l) n)
+byStops mayBeLockable n l = cond (tooManyTicks n) false (mayBeLockable && ltb (quietTicks n l) n)
 
 -- an elapse of the sensors alone: "n ticks", and "the ticks at which some timer ends"
-pub record PassesBy (n : ℕ) (l : List Sensor) (r : Passing) : Type 0 where
+pub record LeavesSensors (n : ℕ) (l : List Sensor) (r : SensorsAfter) : Type 0 where
   pub number-is : r .number ≡ cond (tooManyTicks n) 2 0
   pub sensors-are : r .sensors ≡ cond (tooManyTicks n) l (ticks (map sensorTick) n l)
   pub stops-are : r .stops ≡ cond (tooManyTicks n) 0 (stops (map sensorTick) (any endsNext) n l)

@@ -1,4 +1,369 @@
-// The events of a script, run on a drive that is changed in place. What is here is for the run of a script, and no entry of its own.
-mod inner;
+// The events of a script, one after the other, on a drive that this function owns: an event stores one sensor, one row, the spans or the
+// sensors, and then the rows that are open may lock. The drive goes by value only where a timer ends while a row is open.
+ghost use mathlib.Core.Bool.{not, cond, _&&_, _||_, Bool·beq};
+ghost use mathlib.Core.Path.{_≡_};
+ghost use Prim.Native.Nat.{_≤_};
+ghost use lib.Dec.{ltb};
+ghost use lib.ListN.{length};
+ghost use Rattle.answer.specs.Numbers.{numberOf};
+ghost use Rattle.sensor.specs.Single.{readingAnswer, readingOf};
+ghost use Rattle.sensor.specs.Columns.{setAnswer, setOf};
+ghost use Rattle.geometry.specs.Events.{transferAnswer};
+ghost use Rattle.script.specs.Fields.{tokensAt};
+ghost use Rattle.in_place.specs.FirstEvents.{after, eventsRun, firstEvents, freshOf, firstEventsRun};
+ghost use Rattle.in_place.specs.Parts.{SettledSixteen, LeavesSensor, LeavesRow, byStops, LeavesSensors};
+use band::BandColumns;
+use band::Row;
+use drive::Drive;
+use drive::Kind;
+use geometry::Span;
+use script::EventRead;
+use sensor::Sensor;
+use sensor::SensorAnswer;
+use sensor::SensorColumns;
 
-pub use inner::run_events;
+// A reset type that is in no set: there is no reset.
+const NO_RESET: u64 = 255;
+
+// What an event makes of one sensor: what is stored, the answer's number, and whether the condition is another.
+struct SensorAfter {
+    sensor: Sensor,
+    number: u8,
+    turned: bool,
+}
+
+// What a Set makes of one row, which has settled, the answer's number, and whether the row is open.
+struct RowAfter {
+    row: Row,
+    number: u8,
+    lockable: bool,
+}
+
+// What an elapse makes of the sensors alone, the answer's number, and the stops as a byte.
+struct SensorsAfter {
+    sensors: [Sensor; 16],
+    number: u8,
+    stops: u8,
+}
+
+fn both(a: bool, b: bool) -> bool
+    ensures { λ r. ⌜ r ≡ (a && b) ⌝ }
+{
+    a && b
+}
+
+fn either(a: bool, b: bool) -> bool
+    ensures { λ r. ⌜ r ≡ (a || b) ⌝ }
+{
+    a || b
+}
+
+fn differ(a: bool, b: bool) -> bool
+    ensures { λ r. ⌜ r ≡ not (Bool·beq a b) ⌝ }
+{
+    if a {
+        return !b;
+    }
+    b
+}
+
+fn outcome(one: Sensor, r: SensorAnswer) -> SensorAfter
+    ensures { λ m. ⌜ LeavesSensor (numberOf (r .answer)) (r .sensor) one m ⌝ }
+{
+    let answer = r.answer;
+    let new = r.sensor;
+    SensorAfter {
+        sensor: new,
+        number: answer.number(),
+        turned: differ(one.condition, new.condition),
+    }
+}
+
+// A reading of one sensor.
+fn read(one: Sensor, value: u64) -> SensorAfter
+    ensures { λ m. ⌜ LeavesSensor (readingAnswer value) (readingOf value one) one m ⌝ }
+{
+    let r = one.reading(value);
+    outcome(one, r)
+}
+
+// A Set of one sensor.
+fn set(one: Sensor, columns: SensorColumns) -> SensorAfter
+    ensures { λ m. ⌜ LeavesSensor (setAnswer columns) (setOf columns one) one m ⌝ }
+{
+    let r = one.set(columns);
+    outcome(one, r)
+}
+
+// A Set of one row, with the part of the script that holds the expression's bytes.
+fn form(
+    one: Row,
+    conditions: [bool; 16],
+    columns: BandColumns,
+    script: &[u8],
+    place: usize,
+    size: usize,
+) -> RowAfter
+    ensures { λ m. ⌜ LeavesRow conditions columns (tokensAt (now (script .entry)) place size) one m ⌝ }
+{
+    let tokens = script::tokens_at(script, place, size);
+    let r = row_set::set(one, conditions, columns, tokens);
+    let formed = r.row;
+    let answer = r.answer;
+    let new = formed.settle(conditions);
+    RowAfter {
+        row: new,
+        number: answer.number(),
+        lockable: new.lockable(),
+    }
+}
+
+// An elapse's stops as a byte: there are at most sixteen, as there are sensors.
+fn byte(stops: u64, sensors: [Sensor; 16]) -> u8
+    requires { ⌜ stops ≤ length sensors ⌝ }
+    ensures { λ r. ⌜ r ≡ stops ⌝ }
+{
+    stops as u8
+}
+
+// Whether an elapse goes from stop to stop with the bands settled at each: a timer ends in it while a row may be open.
+fn by_stops(any_lockable: bool, all: [Sensor; 16], ticks: u64) -> bool
+    ensures { λ r. ⌜ r ≡ byStops «any_lockable» ticks all ⌝ }
+{
+    if 4_294_967_295 < ticks {
+        return false;
+    }
+    if any_lockable {
+        let n = ticks as u32;
+        return sensors::quiet_ticks(all, n) < n;
+    }
+    false
+}
+
+// An elapse of the sensors alone.
+fn pass(all: [Sensor; 16], ticks: u64) -> SensorsAfter
+    ensures { λ r. ⌜ LeavesSensors ticks all r ⌝ }
+{
+    if 4_294_967_295 < ticks {
+        return SensorsAfter {
+            sensors: all,
+            number: 2,
+            stops: 0,
+        };
+    }
+    let n = ticks as u32;
+    if sensors::quiet_ticks(all, n) == n {
+        let after = sensors::lower_all(all, n);
+        return SensorsAfter {
+            sensors: after,
+            number: 0,
+            stops: 0,
+        };
+    }
+    let passed = sensors::pass_all(all, n);
+    let after = passed.sensors;
+    SensorsAfter {
+        sensors: after,
+        number: 0,
+        stops: byte(passed.stops, all),
+    }
+}
+
+// The number of a reset's answer.
+fn reset_number(reset_type: u64) -> u8
+    ensures { λ r. ⌜ r ≡ cond (ltb 2 «reset_type») 2 0 ⌝ }
+{
+    if 2 < reset_type { 2 } else { 0 }
+}
+
+// The number of a transfer's answer, from the bands that are closed in its direction.
+fn transfer_number(
+    capacity: u64,
+    band_count: usize,
+    spans: [Span; 16],
+    closed: [bool; 16],
+    direction: u64,
+    first: u64,
+    blocks: u64,
+) -> u8
+    ensures { λ r. ⌜ r ≡ cond (ltb 1 direction) 2 (transferAnswer capacity «band_count» spans closed first blocks) ⌝ }
+{
+    if 1 < direction {
+        return 2;
+    }
+    let answer = geometry::transfer(capacity, band_count, spans, closed, first, blocks);
+    answer.number()
+}
+
+// Runs at most so many events from a place on, ending before the first that does not read, and writes a byte for each into both buffers.
+fn run_settled(
+    script: &[u8],
+    start: usize,
+    count: usize,
+    fresh: Drive,
+    answers: &mut [u8],
+    stops: &mut [u8],
+) -> Drive
+    requires { ⌜ (count ≤ length (now answers)) × (count ≤ length (now stops)) ⌝ }
+    requires { ⌜ SettledSixteen fresh ⌝ }
+    ensures { λ r. ⌜ after r (now (answers .exit)) (now (stops .exit)) ≡ eventsRun fresh (firstEvents count (now (script .entry)) start) (now (answers .entry)) (now (stops .entry)) ⌝ }
+{
+    let mut drive = fresh;
+    // Whether some row may be open: else nothing settles, and no reset locks a side.
+    let mut any_lockable = true;
+    let mut at = start;
+    let mut i = 0;
+    while i < count {
+        let EventRead::Is { kind, start: place, count: size, next } = reader::next_event(script, at) else {
+            return drive;
+        };
+        at = next;
+        let mut number: u8 = 0;
+        let mut ended: u8 = 0;
+        // Whether rows may lock, and the type of the reset that is to lock them.
+        let mut due = false;
+        let mut locking = NO_RESET;
+        match kind {
+            Kind::Reading { sensor, value } => {
+                if drive::no_row(drive.sensor_count, sensor) {
+                    number = 1;
+                } else {
+                    let j = sensor as usize;
+                    let one = drive.sensors[j];
+                    let r = read(one, value);
+                    let new = r.sensor;
+                    drive.sensors[j] = new;
+                    number = r.number;
+                    due = r.turned;
+                }
+            }
+            Kind::Elapse { ticks } => {
+                let all = drive.sensors;
+                if by_stops(any_lockable, all, ticks) {
+                    let elapsed = elapse::elapse(drive, ticks as u32);
+                    let after = elapsed.drive;
+                    drive = after;
+                    ended = byte(elapsed.stops, all);
+                    due = true;
+                } else {
+                    let passed = pass(all, ticks);
+                    let after = passed.sensors;
+                    drive.sensors = after;
+                    number = passed.number;
+                    ended = passed.stops;
+                }
+            }
+            Kind::Reset { reset_type } => {
+                number = reset_number(reset_type);
+                due = true;
+                locking = reset_type;
+                if reset_type == 0 {
+                    let all = drive.sensors;
+                    let after = sensors::power_cycle_all(all);
+                    drive.sensors = after;
+                }
+            }
+            Kind::SensorSet { sensor, columns } => {
+                if drive::no_row(drive.sensor_count, sensor) {
+                    number = 1;
+                } else {
+                    let j = sensor as usize;
+                    let one = drive.sensors[j];
+                    let r = set(one, columns);
+                    let new = r.sensor;
+                    drive.sensors[j] = new;
+                    number = r.number;
+                    due = r.turned;
+                }
+            }
+            Kind::BandSet { band, columns } => {
+                if drive::no_row(drive.band_count, band) {
+                    number = 1;
+                } else {
+                    let j = band as usize;
+                    let all = drive.sensors;
+                    let conditions = sensors::conditions(all, drive.sensor_count);
+                    let one = drive.rows[j];
+                    let r = form(one, conditions, columns, script, place, size);
+                    let new = r.row;
+                    drive.rows[j] = new;
+                    number = r.number;
+                    any_lockable = either(any_lockable, r.lockable);
+                }
+            }
+            Kind::Geometry { band, start: first, length } => {
+                let spans = drive.spans;
+                let r = geometry::place(
+                    drive.capacity,
+                    drive.band_count,
+                    spans,
+                    band,
+                    first,
+                    length,
+                );
+                let after = r.spans;
+                drive.spans = after;
+                let answer = r.answer;
+                number = answer.number();
+            }
+            Kind::Transfer { direction, start: first, count: blocks } => {
+                let rows = drive.rows;
+                let closed = bands::closed_sides(rows, drive::side(direction));
+                let spans = drive.spans;
+                number = transfer_number(
+                    drive.capacity,
+                    drive.band_count,
+                    spans,
+                    closed,
+                    direction,
+                    first,
+                    blocks,
+                );
+            }
+        }
+        if both(any_lockable, due) {
+            let all = drive.sensors;
+            let conditions = sensors::conditions(all, drive.sensor_count);
+            any_lockable = false;
+            for j in 0..16 {
+                let row = drive.rows[j];
+                if row.lockable() {
+                    if row.locks(locking, conditions) {
+                        let new = row.lock();
+                        drive.rows[j] = new;
+                    } else {
+                        any_lockable = true;
+                    }
+                }
+            }
+        }
+        answers[i] = number;
+        stops[i] = ended;
+        i += 1;
+    }
+    drive
+}
+
+// Runs at most so many events of a script from a place on, from the fresh drive of a header; none where a buffer has fewer bytes than that.
+pub fn run_events(
+    script: &[u8],
+    start: usize,
+    count: usize,
+    capacity: u64,
+    bands: u64,
+    sensors: u64,
+    answers: &mut [u8],
+    stops: &mut [u8],
+) -> Drive
+    ensures { λ r. ⌜ after r (now (answers .exit)) (now (stops .exit)) ≡ firstEventsRun (now (script .entry)) start count (freshOf capacity bands sensors) (now (answers .entry)) (now (stops .entry)) ⌝ }
+{
+    let made = Drive::fresh(capacity, bands, sensors);
+    let fresh = made.drive;
+    if answers.len() < count {
+        return fresh;
+    }
+    if stops.len() < count {
+        return fresh;
+    }
+    run_settled(script, start, count, fresh, answers, stops)
+}

@@ -7,7 +7,7 @@ use lib.ListN.{length, take, drop}
 use lib.Seq.{take-length}
 use borrow.Author.Tests.{le-leb, lt-leb}
 use Rattle.base.specs.Spliced.{spliced}
-use Rattle.in_place.specs.Course.{over}
+use Rattle.drive.specs.Events.{over}
 use Rattle.report.specs.Listing.{told, listOf}
 
 pub too-short : (bytes lent : List ℕ) → length lent < length bytes → told 11 0 lent ≡ listOf bytes lent

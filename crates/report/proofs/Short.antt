@@ -24,7 +24,7 @@ use Rattle.band.specs.declared.Row.{Row}
 use Rattle.band.specs.Rows.{freshRow, lockedOn, valueIn}
 use Rattle.drive.specs.declared.Drive.{Drive}
 use Rattle.drive.specs.State.{freshDrive, headerFits, conditionsOf, tickOf, stopNext}
-use Rattle.drive.specs.Events.{Event, Shape, ticking, resetting, setting, other, shapeOf, ifTicking, answerOf, elapsedStops, stopsOf, stepOf, runOf}
+use Rattle.drive.specs.Events.{Event, Shape, ticking, resetting, setting, other, shapeOf, ifTicking, answerOf, elapsedStops, stopsOf, stepOf, runOf, along, answersOf, stopsIn}
 use Rattle.drive.proofs.Answers.{answer-below}
 use Rattle.drive.proofs.Keeping.{step-keeps, Each, run-each, fresh-each}
 use Rattle.elapse.proofs.Calm.{stops-few}
@@ -34,7 +34,6 @@ use Rattle.script.specs.Fields.{Events, events, badFrom, before, andThen}
 use Rattle.script.specs.Whole.{Header, header, noHeader, headerAt, Script, accepted, bad, withEvents, withHeader, readScript}
 use Rattle.script.specs.Parts.{eventsIn, eventsFrom}
 use Rattle.script.proofs.Few.{few-events}
-use Rattle.in_place.specs.Course.{along, answersOf, stopsIn}
 use Rattle.run.proofs.Whole.{accepted-is}
 use Rattle.report.specs.Lines.{decimal, fields, line, lines, eventLine, eventLines, bandLine, bandLines, sensorLine, sensorLines, driveLines, badLine}
 use Rattle.report.specs.Listing.{listing}

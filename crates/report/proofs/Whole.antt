@@ -9,14 +9,13 @@ use lib.Seq.{take-at}
 use borrow.Author.Tests.{le-leb}
 use Rattle.answer.specs.Numbers.{numberOf}
 use Rattle.drive.specs.State.{freshDrive}
-use Rattle.drive.specs.Events.{Event, answerOf, stopsOf, runOf}
+use Rattle.drive.specs.Events.{Event, answerOf, stopsOf, runOf, answersOf, stopsIn, over}
 use Rattle.drive.proofs.Keeping.{run-header}
 use Rattle.script.specs.Whole.{Script, accepted, bad, readScript}
 use Rattle.script.proofs.Few.{few-events}
 use Rattle.run.specs.declared.Ran.{Ran}
-use Rattle.in_place.specs.Course.{answersOf, stopsIn, over}
 use Rattle.run.specs.Outcome.{RunOutcome, outcome, outcomeIn, runEvents, runScript}
-use Rattle.in_place.proofs.Going.{along-length}
+use Rattle.in_place.proofs.Running.{along-length}
 use Rattle.run.proofs.Whole.{all-taken}
 use Rattle.report.specs.declared.Listed.{Listed}
 use Rattle.report.specs.Lines.{lines, eventLines, driveLines}

@@ -6,9 +6,8 @@ use lib.Dec.{leb}
 use lib.ListN.{length}
 use Rattle.answer.specs.Numbers.{numberOf}
 use Rattle.drive.specs.State.{freshDrive}
-use Rattle.drive.specs.Events.{runOf}
+use Rattle.drive.specs.Events.{runOf, answersOf, stopsIn, over}
 use Rattle.script.specs.Whole.{Script, accepted, bad}
-use Rattle.in_place.specs.Course.{answersOf, stopsIn, over}
 use Rattle.report.specs.Lines.{eventLines, driveLines, badLine}
 use Rattle.report.specs.declared.Listed.{Listed}
 

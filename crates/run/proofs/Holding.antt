@@ -11,7 +11,7 @@ use Rattle.answer.specs.Numbers.{numberOf}
 use Rattle.band.specs.Rows.{lockedOn}
 use Rattle.drive.specs.declared.Drive.{Drive}
 use Rattle.drive.specs.State.{freshDrive, rowAt, valueAt}
-use Rattle.drive.specs.Events.{Event, answerOf, stepOf, runOf}
+use Rattle.drive.specs.Events.{Event, answerOf, stepOf, runOf, along, answersOf, stopsIn, over}
 use Rattle.condition.specs.History.{ownSet, moments, LockedByHistory}
 use Rattle.condition.specs.Compared.{answersTo}
 use Rattle.condition.proofs.Condition.{condition-3}
@@ -21,7 +21,6 @@ use Rattle.script.specs.declared.Checked.the-variants as C
 use Rattle.script.specs.Whole.{Script, readScript, checkedIn, checkOf}
 use Rattle.script.proofs.Few.{few-events}
 use Rattle.run.specs.declared.Ran.{Ran}
-use Rattle.in_place.specs.Course.{along, answersOf, stopsIn, over}
 use Rattle.run.specs.Outcome.{outcome, outcomeIn, refusedRun, runEvents, runScript}
 use Rattle.run.specs.Parts.{fewerOf, Refuses, RunsFirst}
 use Rattle.run.specs.Condition3.{ownAnswers, RanWhole, Condition3OfRun, RunWhole, Condition3OfTwo}

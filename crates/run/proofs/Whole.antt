@@ -13,7 +13,7 @@ use Rattle.answer.specs.Numbers.{numberOf}
 use Rattle.drive.specs.declared.Drive.{Drive}
 use Rattle.drive.specs.declared.Fresh.{Fresh}
 use Rattle.drive.specs.State.{headerFits, freshDrive, Freshens}
-use Rattle.drive.specs.Events.{Event}
+use Rattle.drive.specs.Events.{Event, runOf, answersOf, stopsIn, over}
 use Rattle.numbers.specs.Groups.{Found, found, none, numberAt}
 use Rattle.script.specs.declared.HeaderRead.{HeaderRead}
 use Rattle.script.specs.declared.HeaderRead.the-variants as H
@@ -23,9 +23,10 @@ use Rattle.script.specs.Fields.{Events, events, badFrom}
 use Rattle.script.specs.Whole.{Header, header, noHeader, fieldHeader, headerIn, headerAt, Script, accepted, bad, withEvents, withHeader, readScript, reads, badAt, checkedIn, checkScript, checkOf}
 use Rattle.script.specs.Parts.{eventsFrom}
 use Rattle.run.specs.declared.Ran.{Ran}
-use Rattle.in_place.specs.Course.{Goes}
+use Rattle.in_place.specs.FirstEvents.{firstEvents, after, eventsRun, freshOf, firstEventsRun}
 use Rattle.run.specs.Outcome.{outcomeIn, refusedRun, runEvents, runScript}
 use Rattle.run.specs.Parts.{fewerOf, Refuses, RunsFirst}
+use Rattle.run.proofs.Taken.{taken}
 
 -- ---- how many events
 
@@ -136,21 +137,25 @@ module _ (s : List ℕ) (count : ℕ) (answers stops : List ℕ) where
       let z : _≡_ {A = ℕ} 0 1 = cc in
       absurd (omega arith)
 
-  pub ran-first : (h : HeaderRead) (x y z at : ℕ) (f : Fresh) (drive : Drive) (answers' stops' : List ℕ) → count ≤ length answers → count ≤ length stops → headerIn h ≡ headerAt s
-      → h ≡ H.Is x y z at → Freshens x y z f → Goes s at count (f .drive) answers stops drive answers' stops'
+  pub ran-first : (h : HeaderRead) (x y z at : ℕ) (drive : Drive) (answers' stops' : List ℕ) → count ≤ length answers → count ≤ length stops → headerIn h ≡ headerAt s
+      → h ≡ H.Is x y z at → after drive answers' stops' ≡ firstEventsRun s at count (freshOf x y z) answers stops
       → RunsFirst s count answers stops (record { answer = Done; place = 0; count = count; drive = drive }) answers' stops'
-  ran-first h x y z at f drive answers' stops' i j e w p g capacity bands sensors es q k =
+  ran-first h x y z at drive answers' stops' i j e w g capacity bands sensors es q k =
       let a = accepted-is s capacity bands sensors es q in
       let m : header x y z at ≡ header capacity bands sensors (a .next) = sym (ap headerIn w) ∙ e ∙ a .head in
       let ex : x ≡ capacity = cc in
       let ey : y ≡ bands = cc in
       let ez : z ≡ sensors = cc in
       let en : a .next ≡ at = cc in
-      let d : f .drive ≡ freshDrive capacity bands sensors = p .drive ∙ rw (ex, ey, ez, a .fits) in
-      let v = g es (ap (λ (n : ℕ). eventsFrom s n) (sym en) ∙ a .after) k in
+      let d : freshOf x y z ≡ freshDrive capacity bands sensors = rw (ex, ey, ez, a .fits) in
+      let f : firstEvents count s at ≡ take count es = taken count s at es (ap (λ (n : ℕ). eventsFrom s n) (sym en) ∙ a .after) in
+      let v : after drive answers' stops' ≡ eventsRun (freshDrive capacity bands sensors) (take count es) answers stops = g ∙ rw (le-leb count (length answers) i, le-leb count (length stops) j, d, f) in
       let n = few-taken count es k in
       let b = both (take count es) (omega (arith, n, i)) (omega (arith, n, j)) in
-      rw (b, v .drive-is, v .answers-are, v .stops-are, d, n)
+      let vd : drive ≡ runOf (freshDrive capacity bands sensors) (take count es) = cc in
+      let va : answers' ≡ over (answersOf (freshDrive capacity bands sensors) (take count es)) answers = cc in
+      let vs : stops' ≡ over (stopsIn (freshDrive capacity bands sensors) (take count es)) stops = cc in
+      rw (b, vd, va, vs, n)
 
 -- ---- the run
 

@@ -7,10 +7,8 @@ use lib.ListN.{length, take}
 use Rattle.answer.specs.Numbers.{numberOf}
 use Rattle.drive.specs.declared.Drive.{Drive}
 use Rattle.drive.specs.State.{freshDrive}
-use Rattle.drive.specs.Events.{Event, runOf}
-use Rattle.script.specs.Fields.{events}
+use Rattle.drive.specs.Events.{Event, runOf, answersOf, stopsIn, over}
 use Rattle.script.specs.Whole.{Script, accepted, bad}
-use Rattle.in_place.specs.Course.{answersOf, stopsIn, over}
 use Rattle.run.specs.declared.Ran.{Ran}
 
 -- ---- what a run hands back: answer, place, number of events run and drive, with the two buffers

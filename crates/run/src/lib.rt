@@ -66,9 +66,7 @@ fn run_first(script: &[u8], count: usize, answers: &mut [u8], stops: &mut [u8]) 
     else {
         return refused(Answer::BadScript, 0);
     };
-    let made = Drive::fresh(capacity, bands, sensors);
-    let fresh = made.drive;
-    let drive = in_place::run_events(script, at, count, fresh, answers, stops);
+    let drive = in_place::run_events(script, at, count, capacity, bands, sensors, answers, stops);
     Ran {
         answer: Answer::Done,
         place: 0,

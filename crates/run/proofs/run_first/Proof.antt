@@ -1,4 +1,3 @@
-use Rattle.in_place.proofs.Keeping.{fresh-kept}
 use Rattle.run.proofs.Whole.{short-answers, short-stops, no-header, ran-first}
 use borrow.Author.Needs.{needs}
 use Rattle.run.proofs.run_first.Statement.{statement}
@@ -31,11 +30,8 @@ refused-requires-3 c κs = search needs
 returns-3 : tie.Need-returns-3
 returns-3 c = search no-header
 
-fresh-requires : tie.Need-fresh-requires
-fresh-requires c κs = search needs
-
 run-events-requires : tie.Need-run-events-requires
-run-events-requires c κs = (search needs, search fresh-kept)
+run-events-requires c κs = search needs
 
 same-length : tie.Need-same-length
 same-length c = search needs
@@ -59,7 +55,6 @@ run-first-spec =
     enum-told
     refused-requires-3
     returns-3
-    fresh-requires
     run-events-requires
     same-length
     same-length-2

@@ -1,7 +1,7 @@
 use Rattle.in_place.proofs.Parts.{pass-long, pass-quiet, pass-on, passes-fits}
 use borrow.Author.Needs.{needs}
-use Rattle.in_place.proofs.inner.pass.Statement.{statement}
-use Rattle.in_place.proofs.inner.pass.Tie as tie
+use Rattle.in_place.proofs.pass.Statement.{statement}
+use Rattle.in_place.proofs.pass.Tie as tie
 
 returns : tie.Need-returns
 returns c = search pass-long

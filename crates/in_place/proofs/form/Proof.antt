@@ -1,7 +1,7 @@
 use Rattle.in_place.proofs.Parts.{forms}
 use borrow.Author.Needs.{needs}
-use Rattle.in_place.proofs.inner.form.Statement.{statement}
-use Rattle.in_place.proofs.inner.form.Tie as tie
+use Rattle.in_place.proofs.form.Statement.{statement}
+use Rattle.in_place.proofs.form.Tie as tie
 
 tokens-at-requires : tie.Need-tokens-at-requires
 tokens-at-requires c κs = search needs

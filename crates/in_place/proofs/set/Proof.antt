@@ -1,7 +1,7 @@
 use Rattle.in_place.proofs.Parts.{moves}
 use borrow.Author.Needs.{needs}
-use Rattle.in_place.proofs.inner.set.Statement.{statement}
-use Rattle.in_place.proofs.inner.set.Tie as tie
+use Rattle.in_place.proofs.set.Statement.{statement}
+use Rattle.in_place.proofs.set.Tie as tie
 
 set-requires : tie.Need-set-requires
 set-requires c κs = search needs

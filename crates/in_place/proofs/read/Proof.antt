@@ -1,7 +1,7 @@
 use Rattle.in_place.proofs.Parts.{moves}
 use borrow.Author.Needs.{needs}
-use Rattle.in_place.proofs.inner.read.Statement.{statement}
-use Rattle.in_place.proofs.inner.read.Tie as tie
+use Rattle.in_place.proofs.read.Statement.{statement}
+use Rattle.in_place.proofs.read.Tie as tie
 
 reading-requires : tie.Need-reading-requires
 reading-requires c κs = search needs

@@ -1,7 +1,7 @@
 use borrow.Author.Needs.{needs}
 use Rattle.base.proofs.Cases.{cases}
-use Rattle.in_place.proofs.inner.reset_number.Statement.{statement}
-use Rattle.in_place.proofs.inner.reset_number.Tie as tie
+use Rattle.in_place.proofs.reset_number.Statement.{statement}
+use Rattle.in_place.proofs.reset_number.Tie as tie
 
 returns : tie.Need-returns
 returns c = search (cases, needs)

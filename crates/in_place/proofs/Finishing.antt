@@ -17,23 +17,23 @@ use Rattle.band.proofs.Settling.{not-lockable, steady-reset, reset-settle}
 use Rattle.drive.specs.declared.Drive.{Drive}
 use Rattle.drive.specs.State.{withRows, conditionsOf, settleOf}
 use Rattle.drive.specs.Events.{Event}
-use Rattle.in_place.proofs.Storing.{Ran, Half, finishOf}
+use Rattle.in_place.proofs.Storing.{EventRan, EventStored, finishOf}
 
 -- ---- one row
 
-unfoldable pub closeRow : List Bool → ℕ → Row → Row
-closeRow cs t row = settleRow cs (resetRow t row)
+unfoldable pub finishRow : List Bool → ℕ → Row → Row
+finishRow cs t row = settleRow cs (resetRow t row)
 
-close-steady : (cs : List Bool) (t : ℕ) (row : Row) → isLockable row ≡ false → row ≡ closeRow cs t row
-unfolding closeRow
+close-steady : (cs : List Bool) (t : ℕ) (row : Row) → isLockable row ≡ false → row ≡ finishRow cs t row
+unfolding finishRow
 close-steady cs t row e = not-lockable cs row (isLockable row) refl e ∙ ap (settleRow cs) (sym (steady-reset t row e))
 
-close-locks : (cs : List Bool) (t : ℕ) (row new : Row) → locksBy cs t row ≡ true → new ≡ lockUnder true row → new ≡ closeRow cs t row
-unfolding closeRow
+close-locks : (cs : List Bool) (t : ℕ) (row new : Row) → locksBy cs t row ≡ true → new ≡ lockUnder true row → new ≡ finishRow cs t row
+unfolding finishRow
 close-locks cs t row new e q = q ∙ ap (λ (v : Bool). lockUnder v row) (sym e) ∙ sym (reset-settle cs t row)
 
-close-stays : (cs : List Bool) (t : ℕ) (row : Row) → locksBy cs t row ≡ false → row ≡ closeRow cs t row
-unfolding closeRow
+close-stays : (cs : List Bool) (t : ℕ) (row : Row) → locksBy cs t row ≡ false → row ≡ finishRow cs t row
+unfolding finishRow
 close-stays cs t row e =
     ap₂ (λ (a b : Bool). withLocked a b row) (none (row .«read_locked») (row .«read_lock_enabled»)) (none (row .«write_locked») (row .«write_lock_enabled»))
     ∙ ap (λ (v : Bool). lockUnder v row) (sym e)
@@ -55,11 +55,11 @@ locked-steady row = ap₂ (λ (a b : Bool). a || b) (side (row .«read_locked»)
 -- ---- the loop
 
 -- the rows before j are closed, and none of them is open where the flag is not set
-pub record Closing (y : Drive) (t : ℕ) (cs : List Bool) (x : Drive) (o : Bool) (j : ℕ) : Type 0 where
-  pub drive : x ≡ withRows (mapTo (closeRow cs t) j (y .rows)) y
+pub record RowsFinished (y : Drive) (t : ℕ) (cs : List Bool) (x : Drive) (o : Bool) (j : ℕ) : Type 0 where
+  pub drive : x ≡ withRows (mapTo (finishRow cs t) j (y .rows)) y
   pub flag : o ≡ false → any isLockable (take j (x .rows)) ≡ false
 
-pub close-begin : (y : Drive) (t : ℕ) (cs : List Bool) (o : Bool) → Closing y t cs y o 0
+pub close-begin : (y : Drive) (t : ℕ) (cs : List Bool) (o : Bool) → RowsFinished y t cs y o 0
 unfolding any
 close-begin y t cs o = record { drive = refl; flag = λ _. refl }
 
@@ -79,36 +79,36 @@ steady-whole (suc n) (row ∷ rows) h e =
     let f = neither (isLockable row) (any isLockable (take n rows)) e in
     ap₂ (λ (a b : Bool). a || b) (f .0) (steady-whole n rows (omega (arith, h)) (f .1))
 
-module _ (y : Drive) (t : ℕ) (cs : List Bool) (x : Drive) (o : Bool) (j : ℕ) (d : Row) (g : Closing y t cs x o j) where
+module _ (y : Drive) (t : ℕ) (cs : List Bool) (x : Drive) (o : Bool) (j : ℕ) (d : Row) (g : RowsFinished y t cs x o j) where
   -- the next row closed, whatever is stored for it
-  next-row : (v : Row) (o' : Bool) → v ≡ closeRow cs t (getD (x .rows) j d) → (o' ≡ false → (o ≡ false) × (isLockable v ≡ false))
-      → Closing y t cs (withRows (set (x .rows) j v) x) o' (j + 1)
+  next-row : (v : Row) (o' : Bool) → v ≡ finishRow cs t (getD (x .rows) j d) → (o' ≡ false → (o ≡ false) × (isLockable v ≡ false))
+      → RowsFinished y t cs (withRows (set (x .rows) j v) x) o' (j + 1)
   next-row v o' e f = record {
     drive = ap (λ (w : Drive). withRows (set (x .rows) j v) w) (g .drive)
-        ∙ ap (λ (rows : List Row). withRows rows y) (mapTo-next (closeRow cs t) j (y .rows) (x .rows) v d (ap (λ (w : Drive). w .rows) (g .drive)) e);
+        ∙ ap (λ (rows : List Row). withRows rows y) (mapTo-next (finishRow cs t) j (y .rows) (x .rows) v d (ap (λ (w : Drive). w .rows) (g .drive)) e);
     flag = λ z. rw add-one (steady-next j (x .rows) v (g .flag (f z .0)) (f z .1));
   }
 
-  same-row : (o' : Bool) → getD (x .rows) j d ≡ closeRow cs t (getD (x .rows) j d) → (o' ≡ false → (o ≡ false) × (isLockable (getD (x .rows) j d) ≡ false))
-      → Closing y t cs x o' (j + 1)
+  same-row : (o' : Bool) → getD (x .rows) j d ≡ finishRow cs t (getD (x .rows) j d) → (o' ≡ false → (o ≡ false) × (isLockable (getD (x .rows) j d) ≡ false))
+      → RowsFinished y t cs x o' (j + 1)
   same-row o' e f =
-      subst (λ (rows : List Row). Closing y t cs (withRows rows x) o' (j + 1)) (set-same (x .rows) j d) (next-row (getD (x .rows) j d) o' e f)
+      subst (λ (rows : List Row). RowsFinished y t cs (withRows rows x) o' (j + 1)) (set-same (x .rows) j d) (next-row (getD (x .rows) j d) o' e f)
 
   pub close-lock : (w : Bool) (new : Row) → w ≡ locksBy cs t (getD (x .rows) j d) → w ≡ true → new ≡ lockUnder true (getD (x .rows) j d)
-      → Closing y t cs (withRows (set (x .rows) j new) x) o (j + 1)
+      → RowsFinished y t cs (withRows (set (x .rows) j new) x) o (j + 1)
   close-lock w new q f r =
       next-row new o (close-locks cs t (getD (x .rows) j d) new (sym q ∙ f) r) (λ z. (z, ap isLockable r ∙ locked-steady (getD (x .rows) j d)))
 
-  pub close-stay : (w : Bool) → w ≡ locksBy cs t (getD (x .rows) j d) → w ≡ false → Closing y t cs x true (j + 1)
+  pub close-stay : (w : Bool) → w ≡ locksBy cs t (getD (x .rows) j d) → w ≡ false → RowsFinished y t cs x true (j + 1)
   close-stay w q f = same-row true (close-stays cs t (getD (x .rows) j d) (sym q ∙ f)) (λ z. absurd (true≢false z))
 
-  pub close-pass : (u : Bool) → u ≡ isLockable (getD (x .rows) j d) → u ≡ false → Closing y t cs x o (j + 1)
+  pub close-pass : (u : Bool) → u ≡ isLockable (getD (x .rows) j d) → u ≡ false → RowsFinished y t cs x o (j + 1)
   close-pass u p e =
       let f : isLockable (getD (x .rows) j d) ≡ false = sym p ∙ e in
       same-row o (close-steady cs t (getD (x .rows) j d) f) (λ z. (z, f))
 
 -- by the names that the drive and the flag have where the ways meet
-pub close-as : {y : Drive} {t : ℕ} {cs : List Bool} {x x' : Drive} {o o' : Bool} {j : ℕ} → Closing y t cs x o j → x' ≡ x → o' ≡ o → Closing y t cs x' o' j
+pub close-as : {y : Drive} {t : ℕ} {cs : List Bool} {x x' : Drive} {o o' : Bool} {j : ℕ} → RowsFinished y t cs x o j → x' ≡ x → o' ≡ o → RowsFinished y t cs x' o' j
 close-as g ex eo = rw (ex, eo) g
 
 map-twice : {A : Type 0} (f g : A → A) (l : List A) → map (λ x. f (g x)) l ≡ map f (map g l)
@@ -116,13 +116,13 @@ map-twice f g [] = refl
 map-twice f g (x ∷ l) = ap (λ (m : List _). f (g x) ∷ m) (map-twice f g l)
 
 -- at the loop's end the event has run, and the flag is right
-module _ {d : Drive} {e : Event} {a z : ℕ} {y x : Drive} {o due o' : Bool} {t j : ℕ} {cs : List Bool} (k : length (y .rows) ≡ 16) (h : Half d e a z y o due t)
-    (ec : cs ≡ conditionsBelow (y .«sensor_count») (y .sensors)) (g : Closing y t cs x o' j) (m : 16 ≤ j) where
-  all-closed : x ≡ withRows (map (closeRow cs t) (y .rows)) y
-  all-closed = g .drive ∙ ap (λ (rows : List Row). withRows rows y) (mapTo-all (closeRow cs t) j (y .rows) (omega (arith, k, m)))
+module _ {d : Drive} {e : Event} {a z : ℕ} {y x : Drive} {o due o' : Bool} {t j : ℕ} {cs : List Bool} (k : length (y .rows) ≡ 16) (h : EventStored d e a z y o due t)
+    (ec : cs ≡ conditionsBelow (y .«sensor_count») (y .sensors)) (g : RowsFinished y t cs x o' j) (m : 16 ≤ j) where
+  all-closed : x ≡ withRows (map (finishRow cs t) (y .rows)) y
+  all-closed = g .drive ∙ ap (λ (rows : List Row). withRows rows y) (mapTo-all (finishRow cs t) j (y .rows) (omega (arith, k, m)))
 
-  pub closed-ran : Ran d e a z x
-  unfolding finishOf settleOf conditionsOf closeRow
+  pub closed-ran : EventRan d e a z x
+  unfolding finishOf settleOf conditionsOf finishRow
   closed-ran = record {
     answer = h .answer;
     stops = h .stops;

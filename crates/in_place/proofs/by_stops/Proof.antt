@@ -1,7 +1,7 @@
 use Rattle.in_place.proofs.Parts.{stops-long, stops-open, stops-steady}
 use borrow.Author.Needs.{needs}
-use Rattle.in_place.proofs.inner.by_stops.Statement.{statement}
-use Rattle.in_place.proofs.inner.by_stops.Tie as tie
+use Rattle.in_place.proofs.by_stops.Statement.{statement}
+use Rattle.in_place.proofs.by_stops.Tie as tie
 
 returns : tie.Need-returns
 returns c = search stops-long

@@ -1,8 +1,8 @@
 use Rattle.base.proofs.Cases.{cases}
 use Rattle.in_place.proofs.Parts.{asked-is}
 use borrow.Author.Needs.{needs}
-use Rattle.in_place.proofs.inner.transfer_number.Statement.{statement}
-use Rattle.in_place.proofs.inner.transfer_number.Tie as tie
+use Rattle.in_place.proofs.transfer_number.Statement.{statement}
+use Rattle.in_place.proofs.transfer_number.Tie as tie
 
 returns : tie.Need-returns
 returns c = search (cases, needs)

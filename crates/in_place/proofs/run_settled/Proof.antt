@@ -2,35 +2,35 @@ use Prim.Native.Nat.{_-_, _<_}
 use native.Mathlib.Omega.{arith}
 use mathlib.Core.Logic.{⊎-elim}
 use borrow.Author.Needs.{needs}
-use Rattle.events.proofs.Arms.{row-place}
+use Rattle.base.proofs.Rows.{row-place}
 use Rattle.in_place.proofs.Storing.{stops-short, half-idle, reading-absent, reading-half, elapse-half, pass-half, reset-cycle, reset-other, set-absent, set-half, band-absent, band-half, geometry-half, transfer-half}
-use Rattle.in_place.proofs.Closing.{Closing, close-begin, close-lock, close-stay, close-pass, close-as, closed-ran, closed-flag}
-use Rattle.in_place.proofs.Going.{Loop, loop-begin, loop-bad, loop-done, next, stored-as, stored-long, again, elapse-fits, row-scaled}
-use Rattle.in_place.proofs.inner.run_events.Statement.{statement}
-use Rattle.in_place.proofs.inner.run_events.Tie as tie
+use Rattle.in_place.proofs.Finishing.{RowsFinished, close-begin, close-lock, close-stay, close-pass, close-as, closed-ran, closed-flag}
+use Rattle.in_place.proofs.Running.{RunSoFar, run-begin, run-broken, run-done, next, stored-as, stored-long, run-again, elapse-fits, row-scaled}
+use Rattle.in_place.proofs.run_settled.Statement.{statement}
+use Rattle.in_place.proofs.run_settled.Tie as tie
 
 -- the run's NO_RESET is in no set
 above : _<_ 2 255
 above = omega arith
 
 abbrev Inv-loop2 : tie.InvT-loop2
-Inv-loop2 script start count answers stops drive₀ any-open₀ at i place size next number ended due locking conditions j₀ drive any-open j =
-    Closing drive₀ locking conditions drive any-open j
+Inv-loop2 script start count answers stops drive₀ any-lockable₀ at i place size next number ended due locking conditions j₀ drive any-lockable j =
+    RowsFinished drive₀ locking conditions drive any-lockable j
 
 abbrev μ-loop2 : tie.MeasureT-loop2
-μ-loop2 script start count answers stops drive₀ any-open₀ at i place size next number ended due locking conditions j₀ drive any-open j =
+μ-loop2 script start count answers stops drive₀ any-lockable₀ at i place size next number ended due locking conditions j₀ drive any-lockable j =
     16 - j
 
 abbrev Inv-loop : tie.InvT-loop
-Inv-loop script start count answers₀ stops₀ drive₀ any-open₀ at₀ i₀ answers stops drive any-open at i =
-    Loop script start count drive₀ answers₀ stops₀ drive answers stops at i any-open
+Inv-loop script start count answers₀ stops₀ drive₀ any-lockable₀ at₀ i₀ answers stops drive any-lockable at i =
+    RunSoFar script start count drive₀ answers₀ stops₀ drive answers stops at i any-lockable
 
 abbrev μ-loop : tie.MeasureT-loop
-μ-loop script start count answers₀ stops₀ drive₀ any-open₀ at₀ i₀ answers stops drive any-open at i =
+μ-loop script start count answers₀ stops₀ drive₀ any-lockable₀ at₀ i₀ answers stops drive any-lockable at i =
     count - i
 
 loop-holds : tie.Need-loop-holds Inv-loop2 μ-loop2 Inv-loop μ-loop
-loop-holds c = search (loop-begin, needs)
+loop-holds c = search (run-begin, needs)
 
 next-event-requires : tie.Need-next-event-requires Inv-loop2 μ-loop2 Inv-loop μ-loop
 next-event-requires c κs = search needs
@@ -48,7 +48,7 @@ same-length-2 : tie.Need-same-length-2 Inv-loop2 μ-loop2 Inv-loop μ-loop
 same-length-2 c = search needs
 
 returns : tie.Need-returns Inv-loop2 μ-loop2 Inv-loop μ-loop
-returns c = search (loop-bad, needs)
+returns c = search (run-broken, needs)
 
 enum-known-kind-2 : tie.Need-enum-known-kind-2 Inv-loop2 μ-loop2 Inv-loop μ-loop
 enum-known-kind-2 c = search needs
@@ -114,7 +114,7 @@ set-requires : tie.Need-set-requires Inv-loop2 μ-loop2 Inv-loop μ-loop
 set-requires c κs = search needs
 
 mul-new-2 : tie.Need-mul-new-2 Inv-loop2 μ-loop2 Inv-loop μ-loop
-mul-new-2 c = search (row-scaled, needs)
+mul-new-2 c = row-scaled _ _ _ _ (c .before .before .before .before .no-row2 .ensures) (c .before .before .before .if4 .left) (omega arith)
 
 element-set-from-new-2 : tie.Need-element-set-from-new-2 Inv-loop2 μ-loop2 Inv-loop μ-loop
 element-set-from-new-2 c = search row-place
@@ -227,21 +227,21 @@ loop-again : tie.Need-loop-again Inv-loop2 μ-loop2 Inv-loop μ-loop
 loop-again c =
     let g = next (c .before .before .before .before .before .before .before .before .loop .inv) (c .before .before .before .before .before .before .before .loop-test .taken) (c .before .before .before .before .before .before .before .before .before .before .before .before .pre .0) (c .before .before .before .before .before .before .next-event .ensures) (c .before .before .before .before .kind .given .1) in
     let h =
-    ⊎-elim (λ w. stored-as g (w .1 .given .1) (reading-absent _ (g .loop .kept) _ _ _ above (g .loop .flag) _ _ _ (w .3 .ensures) (w .4 .taken)) (w .5) (w .6) (w .7) (w .8) (w .9) (w .10))
-    (⊎-elim (λ w. stored-as g (w .1 .given .1) (reading-half _ (g .loop .kept) _ _ (w .3 .ensures) (w .4 .left) _ _ _ _ _ (w .6 .ensures) above (g .loop .flag)) (w .8) (w .9) (w .10) (w .11) (w .12) (w .13))
-    (⊎-elim (λ w. stored-as g (w .1 .given .1) (elapse-half _ (g .loop .kept) _ _ _ _ _ _ above (w .4 .ensures) (w .5 .taken) (w .6 .ensures) (w .8 .ensures)) (w .9) (w .10) (w .11) (w .12) (w .13) (w .14))
-    (⊎-elim (λ w. stored-as g (w .1 .given .1) (pass-half _ (g .loop .kept) _ _ _ _ _ _ above (g .loop .flag) (w .4 .ensures) (w .5 .left) (w .6 .ensures)) (w .8) (w .9) (w .10) (w .11) (w .12) (w .13))
-    (⊎-elim (λ w. stored-as g (w .1 .given .1) (reset-cycle _ (g .loop .kept) _ _ _ _ (g .loop .flag) (w .3 .ensures) (w .4 .taken) (w .6 .ensures)) (w .7) (w .8) (w .9) (w .10) (w .11) (w .12))
-    (⊎-elim (λ w. stored-as g (w .1 .given .1) (reset-other _ (g .loop .kept) _ _ _ (g .loop .flag) (w .3 .ensures) (w .4 .left)) (w .5) (w .6) (w .7) (w .8) (w .9) (w .10))
-    (⊎-elim (λ w. stored-as g (w .1 .given .1) (set-absent _ (g .loop .kept) _ _ _ above (g .loop .flag) _ _ _ (w .3 .ensures) (w .4 .taken)) (w .5) (w .6) (w .7) (w .8) (w .9) (w .10))
-    (⊎-elim (λ w. stored-as g (w .1 .given .1) (set-half _ (g .loop .kept) _ _ (w .3 .ensures) (w .4 .left) _ _ _ _ _ (w .6 .ensures) above (g .loop .flag)) (w .8) (w .9) (w .10) (w .11) (w .12) (w .13))
-    (⊎-elim (λ w. stored-as g (w .1 .given .1) (band-absent _ (g .loop .kept) _ _ _ above (g .loop .flag) _ _ _ _ (w .3 .ensures) (w .4 .taken)) (w .5) (w .6) (w .7) (w .8) (w .9) (w .10))
-    (⊎-elim (λ w. stored-as g (w .1 .given .1) (band-half _ (g .loop .kept) _ _ _ _ _ _ _ _ _ _ _ above (g .loop .flag) (w .3 .ensures) (w .4 .left) (w .6 .ensures) (w .8 .ensures) (w .10 .ensures)) (w .11) (w .12) (w .13) (w .14) (w .15) (w .16))
-    (⊎-elim (λ w. stored-as g (w .1 .given .1) (geometry-half _ (g .loop .kept) _ _ _ _ _ _ _ _ above (g .loop .flag) (w .4 .ensures) (w .6 .ensures)) (w .7) (w .8) (w .9) (w .10) (w .11) (w .12))
-    (λ w. stored-as g (w .1 .given .1) (transfer-half _ (g .loop .kept) _ _ _ _ _ _ _ _ _ above (g .loop .flag) (w .4 .ensures) (w .5 .ensures) (w .7 .ensures)) (w .8) (w .9) (w .10) (w .11) (w .12) (w .13))))))))))))
+    ⊎-elim (λ w. stored-as g (w .1 .given .1) (reading-absent _ (g .sofar .kept) _ _ _ above (g .sofar .flag) _ _ _ (w .3 .ensures) (w .4 .taken)) (w .5) (w .6) (w .7) (w .8) (w .9) (w .10))
+    (⊎-elim (λ w. stored-as g (w .1 .given .1) (reading-half _ (g .sofar .kept) _ _ (w .3 .ensures) (w .4 .left) _ _ _ _ _ (w .6 .ensures) above (g .sofar .flag)) (w .8) (w .9) (w .10) (w .11) (w .12) (w .13))
+    (⊎-elim (λ w. stored-as g (w .1 .given .1) (elapse-half _ (g .sofar .kept) _ _ _ _ _ _ above (w .4 .ensures) (w .5 .taken) (w .6 .ensures) (w .8 .ensures)) (w .9) (w .10) (w .11) (w .12) (w .13) (w .14))
+    (⊎-elim (λ w. stored-as g (w .1 .given .1) (pass-half _ (g .sofar .kept) _ _ _ _ _ _ above (g .sofar .flag) (w .4 .ensures) (w .5 .left) (w .6 .ensures)) (w .8) (w .9) (w .10) (w .11) (w .12) (w .13))
+    (⊎-elim (λ w. stored-as g (w .1 .given .1) (reset-cycle _ (g .sofar .kept) _ _ _ _ (g .sofar .flag) (w .3 .ensures) (w .4 .taken) (w .6 .ensures)) (w .7) (w .8) (w .9) (w .10) (w .11) (w .12))
+    (⊎-elim (λ w. stored-as g (w .1 .given .1) (reset-other _ (g .sofar .kept) _ _ _ (g .sofar .flag) (w .3 .ensures) (w .4 .left)) (w .5) (w .6) (w .7) (w .8) (w .9) (w .10))
+    (⊎-elim (λ w. stored-as g (w .1 .given .1) (set-absent _ (g .sofar .kept) _ _ _ above (g .sofar .flag) _ _ _ (w .3 .ensures) (w .4 .taken)) (w .5) (w .6) (w .7) (w .8) (w .9) (w .10))
+    (⊎-elim (λ w. stored-as g (w .1 .given .1) (set-half _ (g .sofar .kept) _ _ (w .3 .ensures) (w .4 .left) _ _ _ _ _ (w .6 .ensures) above (g .sofar .flag)) (w .8) (w .9) (w .10) (w .11) (w .12) (w .13))
+    (⊎-elim (λ w. stored-as g (w .1 .given .1) (band-absent _ (g .sofar .kept) _ _ _ above (g .sofar .flag) _ _ _ _ (w .3 .ensures) (w .4 .taken)) (w .5) (w .6) (w .7) (w .8) (w .9) (w .10))
+    (⊎-elim (λ w. stored-as g (w .1 .given .1) (band-half _ (g .sofar .kept) _ _ _ _ _ _ _ _ _ _ _ above (g .sofar .flag) (w .3 .ensures) (w .4 .left) (w .6 .ensures) (w .8 .ensures) (w .10 .ensures)) (w .11) (w .12) (w .13) (w .14) (w .15) (w .16))
+    (⊎-elim (λ w. stored-as g (w .1 .given .1) (geometry-half _ (g .sofar .kept) _ _ _ _ _ _ _ _ above (g .sofar .flag) (w .4 .ensures) (w .6 .ensures)) (w .7) (w .8) (w .9) (w .10) (w .11) (w .12))
+    (λ w. stored-as g (w .1 .given .1) (transfer-half _ (g .sofar .kept) _ _ _ _ _ _ _ _ _ above (g .sofar .flag) (w .4 .ensures) (w .5 .ensures) (w .7 .ensures)) (w .8) (w .9) (w .10) (w .11) (w .12) (w .13))))))))))))
     (c .before .before .match2 .came) in
-    ⊎-elim (λ w. let l = stored-long (g .loop .kept) h in again g (closed-ran l h (w .2 .ensures) (w .3 .inv) (w .4 .left)) (closed-flag l h (w .2 .ensures) (w .3 .inv) (w .4 .left)) (w .5) (w .6))
-    (λ w. again g (half-idle h (c .before .both .ensures) (w .0 .left)) (h .flag) (w .1) (w .2))
+    ⊎-elim (λ w. let l = stored-long (g .sofar .kept) h in run-again g (closed-ran l h (w .2 .ensures) (w .3 .inv) (w .4 .left)) (closed-flag l h (w .2 .ensures) (w .3 .inv) (w .4 .left)) (w .5) (w .6))
+    (λ w. run-again g (half-idle h (c .before .both .ensures) (w .0 .left)) (h .flag) (w .1) (w .2))
     (c .if6 .came)
 
 same-length-3 : tie.Need-same-length-3 Inv-loop2 μ-loop2 Inv-loop μ-loop
@@ -251,10 +251,10 @@ same-length-4 : tie.Need-same-length-4 Inv-loop2 μ-loop2 Inv-loop μ-loop
 same-length-4 c = search needs
 
 returns-2 : tie.Need-returns-2 Inv-loop2 μ-loop2 Inv-loop μ-loop
-returns-2 c = search (loop-done, needs)
+returns-2 c = search (run-done, needs)
 
-pub run-events-spec : {M : Type 1} → statement M
-run-events-spec =
+pub run-settled-spec : {M : Type 1} → statement M
+run-settled-spec =
     tie.close
     (tie.spec
     Inv-loop2
