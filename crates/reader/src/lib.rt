@@ -46,11 +46,11 @@ pub fn moved_to<'a>(r: Reader<'a>, next: usize) -> Reader<'a>
     Reader { script: r.script, at: next }
 }
 
-// The event at a place of a script, by way of a reader.
+// The event at a place of a script: a reader of the script is moved to the place, and reads there.
 pub fn next_event(script: &[u8], at: usize) -> EventRead
     ensures { λ r. ⌜ parsedIn (now (script .entry)) r ≡ eventAt (now (script .entry)) at ⌝ }
 {
-    event(new(script, at))
+    event(moved_to(new(script, 0), at))
 }
 
 // So many bytes at a place of a script, by way of a reader.
