@@ -1,7 +1,7 @@
 -- `reader::moved_to` meets its contract: a walk of its MIR, by hand, from what the reader's walks share (`Walk.antt`). The reader's script is read, and a reader is made of it and of the place passed, in the result's local.
 -- The struct is Copy, so what it owns is had twice: once for r at exit, and once for the result, with the facts of the new place for those of the old one.
 -- Assumes nothing.
-use mathlib.Core.Path.{_≡_, refl}
+use mathlib.Core.Path.{refl}
 use Prim.Native.Nat.{ℕ, _<_, _^_}
 use mathlib.Core.List.{[], _∷_}
 use lib.Dec.{T as Holds}
@@ -13,30 +13,28 @@ use base.Fml.{Lft, Share}
 use prog.Wp.{Heap, WpFn, Tables}
 use ghost.Atoms.{Atoms}
 use contract.Running.{givenOf}
-use types.Kit.{Given, ‵, _⊛_, _$_, _∵_, !, qed, by, move, use1, split, fsplit, fjoin, suffices, frame}
+use types.Kit.{Given, ‵, _$_, _∵_, !, qed, by, move, fsplit, fjoin, suffices, frame}
 use types.Part.{agg, whole, sub, look-in}
 use types.Run.{look, init, forget, stop, fld, from, load, of-opd, and-then, no-more, assigns, returns, enter, alloc1, alloc0, params1, pass1, pass0, free1, free0}
 use denote.RattleType.{owns}
 use denote.Laws.{Is}
 use denote.Plain.{uint-makes, uint-vals, uint-tells}
 use denote.Builtin.{usize}
-use denote.Signature.{namedLft}
 use denote.Steps.{owned}
-use denote.Struct.Laws as LL
 use denote.Struct.Rest.{own-put}
 use denote.Triple.Bound.{Bound}
 use denote.Triple.Entry.{onEntry}
 use denote.Triple.Walked.{Stays}
 use Rattle.reader.specs.declared.Reader.{Reader}
 use Rattle.reader.proofs.Reader.Laws as T′
-use Rattle.reader.proofs.Walk.{Fact, End, ends, Token, at-env, meets, B, D, L, reader-stay, reader-goes, reader-vals, reader-tells, reader-typed, number-stay, number-goes, ReaderOwn}
+use Rattle.reader.proofs.Walk.{Fact, End, ends, Token, at-env, meets, B, D, L, reader-stay, reader-goes, reader-vals, reader-tells, reader-typed, number-stay, number-goes, Made, reader-twice}
 use Rattle.reader.proofs.moved_to.Key.{name as #reader·moved-to}
 use Rattle.reader.proofs.moved_to as moved
 use Rattle.reader.proofs.moved_to.Statement as stated
 use Rattle.reader.proofs.moved_to.Code as code
 
 abbrev on : Fact moved.ended
-on κs a r = (r .script ≡ a .0 .script) × (r .at ≡ a .1 .0)
+on κs a = Made (a .0 .script) (a .1 .0)
 
 abbrev stayed : Stays (moved.ended .signature .params) (moved.ended .kept)
 stayed = (reader-stay, (number-stay, tt))
@@ -54,7 +52,7 @@ module _ {M : Type 1} (𝓤 : URA M) (H : Heap 𝓤) (A : Atoms 𝓤) (W : Given
   exits : ent 𝓤 (onEntry 𝓤 H A moved.signature (κ, tt) (q, tt) (d, (n, tt)) (x .4)) (End moved.ended on 𝓤 H A stayed x (T′.lowered d′))
   exits =
       qed W (Token 𝓤 A κ q ∷ ‵ (owns (B (κ, tt) ∷ usize ∷ []) (d, (n, tt)) (x .4)) ∷ []) ∵ suffices ! _ (ends moved.ended on 𝓤 H A stayed x (T′.lowered d′) W d′ (tt, (tt, tt)) (tt, (tt, tt)) (refl, refl)) $
-      frame ! $ fsplit ! $ use1 W (‵ (ReaderOwn κ d) ⊛ ‵ (ReaderOwn κ d)) (LL.copy (D (κ, tt)) (T′.the-copy (namedLft 1 0 tt (κ, tt))) 𝓤 H A W .twice d (mach ∷ [])) $ split ! $ move ! (0 ∷ 2 ∷ []) $ fjoin ! $ frame ! $
+      frame ! $ fsplit ! $ reader-twice ! κ d $ move ! (0 ∷ 2 ∷ []) $ fjoin ! $ frame ! $
       -- [what the struct owns]: the number's facts take the place of at's
       owned ! usize (Is usize) (uint-makes 𝓤 H A W w64) n _ (refl, ok) $ move ! (1 ∷ 0 ∷ []) $ by ! (own-put 𝓤 H A W (D (κ, tt)) (L (κ, tt)) 1 (d .script, (d .at, tt)) n mach)
 

@@ -13,15 +13,15 @@ use base.Fml.{Lft, Share}
 use prog.Wp.{Heap, WpFn, Tables}
 use ghost.Atoms.{Atoms}
 use contract.Running.{givenOf}
-use types.Kit.{Given, ‵, _⊛_, ⋆, _$_, _∵_, !, qed, by, move, drop, use1, split, join, fsplit, fjoin, suffices, frame, done}
+use types.Kit.{Given, ‵, ⋆, _$_, _∵_, !, qed, by, move, drop, join, fsplit, fjoin, suffices, frame, done}
 use types.Run.{look, init, forget, stop, from, load, lit, and-then, no-more, land, returns, enter, alloc1, alloc0, params1, pass1, pass0, free1, free0}
 use denote.RattleType.{owns}
 use denote.Laws.{Is}
-use denote.Plain.{uint-makes, uint-vals, uint-tells}
+use denote.Plain.{uint-vals, uint-tells}
 use denote.Builtin.{u8, usize}
 use denote.Ref.{RefT, now}
-use denote.Slice.{ShrSlice, slice-vals, shr-slice-tells, shr-slice-lawful, shr-slice-copy}
-use denote.Steps.{nothing, owned}
+use denote.Slice.{ShrSlice, slice-vals, shr-slice-tells, shr-slice-lawful}
+use denote.Steps.{nothing}
 use denote.Enum.Laws as EL
 use denote.Triple.Statement.{Triple}
 use denote.Triple.Bound.{Bound}
@@ -41,7 +41,7 @@ use Rattle.reader.proofs.moved_to.Met as moved-thm
 use Rattle.reader.proofs.event as event
 use Rattle.reader.proofs.event.Symbol as event-def
 use Rattle.reader.proofs.event.Met as event-thm
-use Rattle.reader.proofs.Walk.{Fact, Says, End, ends, Token, calls-said, at-env, known, meets, script-stay, script-goes, number-stay, number-goes, local-typed, slice-val, SliceOwn}
+use Rattle.reader.proofs.Walk.{Fact, Says, End, ends, Token, calls-said, at-env, known, meets, script-stay, script-goes, number-stay, number-goes, local-typed, script-val, ScriptOwn, Made, numbered, script-twice}
 use Rattle.reader.proofs.next_event.Key.{name as #reader·next-event}
 use Rattle.reader.proofs.next_event as next
 use Rattle.reader.proofs.next_event.Statement as stated
@@ -55,10 +55,10 @@ abbrev found : Fact next.ended
 found κs a = Found (a .0) (a .1 .0)
 
 abbrev made : Fact new.ended
-made κs a r = (r .script ≡ a .0) × (r .at ≡ a .1 .0)
+made κs a = Made (a .0) (a .1 .0)
 
 abbrev on : Fact moved.ended
-on κs a r = (r .script ≡ a .0 .script) × (r .at ≡ a .1 .0)
+on κs a = Made (a .0 .script) (a .1 .0)
 
 abbrev of-reader : Fact event.ended
 of-reader κs a = Found (a .0 .script) (a .0 .at)
@@ -70,7 +70,7 @@ module _ {M : Type 1} (𝓤 : URA M) (H : Heap 𝓤) (A : Atoms 𝓤) (W : Given
     (knows-new : Triple 𝓤 (𝓣 .C new-def.name) (Says new.ended made 𝓤 H A)) (knows-moved : Triple 𝓤 (𝓣 .C moved-def.name) (Says moved.ended on 𝓤 H A)) (knows-event : Triple 𝓤 (𝓣 .C event-def.name) (Says event.ended of-reader 𝓤 H A))
     (κ : Lft) (q : Share) (s : RefT (List ℕ)) (n : ℕ) (ok : n < 2 ^ 64) where
   abbrev v : Val
-  v = slice-val s
+  v = script-val s
 
   abbrev x : Bound 𝓤 H A next.signature
   x = ((κ, tt), (q, tt), tt, (s, (n, tt)), (v ∷ [], (vint w64 n ∷ [], tt)))
@@ -85,10 +85,10 @@ module _ {M : Type 1} (𝓤 : URA M) (H : Heap 𝓤) (A : Atoms 𝓤) (W : Given
   abbrev to-event : Reader → Val → Bound 𝓤 H A event.signature
   to-event d u = ((κ, tt), (q, tt), tt, (d, tt), (u ∷ [], tt))
 
-  exits : (r : EventRead) (u : Val) → Found s n r → ent 𝓤 (⋆ 𝓤 H A (‵ (S.the-row .own r (u ∷ [])) ∷ Token 𝓤 A κ q ∷ ‵ (SliceOwn κ s) ∷ [])) (End next.ended found 𝓤 H A stayed x u)
+  exits : (r : EventRead) (u : Val) → Found s n r → ent 𝓤 (⋆ 𝓤 H A (‵ (S.the-row .own r (u ∷ [])) ∷ Token 𝓤 A κ q ∷ ‵ (ScriptOwn κ s) ∷ [])) (End next.ended found 𝓤 H A stayed x u)
   exits r u e =
-      qed W (‵ (S.the-row .own r (u ∷ [])) ∷ Token 𝓤 A κ q ∷ ‵ (SliceOwn κ s) ∷ []) ∵ suffices ! _ (ends next.ended found 𝓤 H A stayed x u W r (tt, (tt, tt)) (tt, (tt, tt)) e) $
-      move ! (1 ∷ []) $ frame ! $ nothing ! $ owned ! usize (Is usize) (uint-makes 𝓤 H A W w64) n _ (refl, ok) $ fjoin ! $ move ! (2 ∷ 0 ∷ []) $ fjoin ! $ frame ! $ done !
+      qed W (‵ (S.the-row .own r (u ∷ [])) ∷ Token 𝓤 A κ q ∷ ‵ (ScriptOwn κ s) ∷ []) ∵ suffices ! _ (ends next.ended found 𝓤 H A stayed x u W r (tt, (tt, tt)) (tt, (tt, tt)) e) $
+      move ! (1 ∷ []) $ frame ! $ nothing ! $ numbered ! n ok $ move ! (2 ∷ 0 ∷ []) $ fjoin ! $ frame ! $ done !
 
   walk : Is (ShrSlice (named 0) κ u8) s (v ∷ []) → ent 𝓤 (onEntry 𝓤 H A next.signature (κ, tt) (q, tt) (s, (n, tt)) (x .4)) (WpFn 𝓤 H (𝓣 .C) (𝓣 .Λ) code.function (v ∷ vint w64 n ∷ []) (End next.ended found 𝓤 H A stayed x))
   walk p =
@@ -96,12 +96,11 @@ module _ {M : Type 1} (𝓤 : URA M) (H : Heap 𝓤) (A : Atoms 𝓤) (W : Given
       alloc1 ! (λ l₀. alloc1 ! (λ l₁. alloc1 ! (λ l₂. alloc1 ! (λ l₃. alloc1 ! (λ l₄. alloc0 ! $ params1 ! $
       pass1 ! (init ! 6 refl (shr-slice-lawful 𝓤 H A W (named 0) κ u8 .typed s (v ∷ []) p .0)) $ pass1 ! (init ! 4 refl (tt, record { fits = ok })) $ pass0 ! $
       -- [room for _4; …; room for _3; …; _2; …; _1; …; room for _0; …; the token; what the arguments own]
-      move ! (11 ∷ []) $ fsplit ! $ move ! (1 ∷ []) $ drop ! $ use1 W (‵ (SliceOwn κ s) ⊛ ‵ (SliceOwn κ s)) (shr-slice-copy 𝓤 H A W (named 0) κ u8 .twice s (v ∷ [])) $ split ! $
-      nothing ! $ owned ! usize (Is usize) (uint-makes 𝓤 H A W w64) 0 _ (refl, omega arith) $ fjoin ! $ move ! (1 ∷ 0 ∷ []) $ fjoin ! $ move ! (12 ∷ 0 ∷ []) $ join ! $
+      move ! (11 ∷ []) $ fsplit ! $ move ! (1 ∷ []) $ drop ! $ script-twice ! κ s $ nothing ! $ numbered ! 0 (omega arith) $ move ! (1 ∷ 0 ∷ []) $ fjoin ! $ move ! (12 ∷ 0 ∷ []) $ join ! $
       calls-said ! 𝓣 new.ended made knows-new to-new (and-then ! (load ! (from ! (stop !)) (look ! 8 refl)) (and-then ! (lit ! tt) (no-more !))) (λ u c e is.
       -- [what the reader owns; the token; what s owns; room for _4; …; room for _3; …; _2; …; _1; …; room for _0; …]
       land ! (from ! (stop !)) (init ! 3 refl (local-typed 𝓤 H A W κ c u is)) $
-      nothing ! $ owned ! usize (Is usize) (uint-makes 𝓤 H A W w64) n _ (refl, ok) $ fjoin ! $ move ! (1 ∷ 0 ∷ []) $ fjoin ! $ move ! (1 ∷ 0 ∷ []) $ join ! $
+      nothing ! $ numbered ! n ok $ move ! (1 ∷ 0 ∷ []) $ fjoin ! $ move ! (1 ∷ 0 ∷ []) $ join ! $
       calls-said ! 𝓣 moved.ended on knows-moved (to-moved c u) (and-then ! (load ! (from ! (stop !)) (look ! 2 refl)) (and-then ! (load ! (from ! (stop !)) (look ! 6 refl)) (no-more !))) (λ u′ d e′ is′.
       -- [what the moved reader owns; the token; what s owns; _4; …; room for _3; …; _2; …; _1; …; room for _0; …]
       land ! (from ! (stop !)) (init ! 5 refl (local-typed 𝓤 H A W κ d u′ is′)) $

@@ -12,16 +12,15 @@ use base.Fml.{Lft, Share}
 use prog.Wp.{Heap, WpFn, Tables}
 use ghost.Atoms.{Atoms}
 use contract.Running.{givenOf}
-use types.Kit.{Given, ‵, _⊛_, ⋆, _$_, _∵_, !, qed, by, move, drop, use1, split, join, fsplit, fjoin, suffices, frame, done}
+use types.Kit.{Given, ‵, ⋆, _$_, _∵_, !, qed, by, move, join, fsplit, fjoin, suffices, frame, done}
 use types.Part.{whole, sub, look-in}
 use types.Run.{look, init, forget, stop, fld, from, load, of-opd, and-then, no-more, assigns, land, returns, enter, alloc1, alloc0, params1, pass1, pass0, free1, free0}
 use denote.RattleType.{RattleType, owns}
-use denote.Laws.{Is}
-use denote.Plain.{uint-makes, uint-vals, uint-tells}
+use denote.Plain.{uint-vals, uint-tells}
 use denote.Builtin.{u8, usize}
 use denote.Ref.{RefT, now}
 use denote.Slice.{ShrSlice, shr-slice-lawful}
-use denote.Steps.{owned, nothing}
+use denote.Steps.{nothing}
 use denote.Triple.Statement.{Triple}
 use denote.Triple.Bound.{Bound}
 use denote.Triple.Entry.{onEntry}
@@ -32,7 +31,7 @@ use Rattle.reader.proofs.Reader.Laws as T′
 use Rattle.script.proofs.tokens_at as step
 use Rattle.script.proofs.tokens_at.Symbol as step-def
 use Rattle.script.proofs.tokens_at.Met as step-thm
-use Rattle.reader.proofs.Walk.{Fact, Says, End, ends, Token, calls-said, at-env, known, meets, B, reader-stay, reader-goes, reader-vals, reader-tells, reader-typed, number-stay, number-goes, slice-val, SliceOwn, ReaderOwn, apart}
+use Rattle.reader.proofs.Walk.{Fact, Says, End, ends, Token, calls-said, at-env, known, meets, B, reader-stay, reader-goes, reader-vals, reader-tells, reader-typed, number-stay, number-goes, script-val, ScriptOwn, ReaderOwn, numbered, apart}
 use Rattle.reader.proofs.part.Key.{name as #reader·part}
 use Rattle.reader.proofs.part as part
 use Rattle.reader.proofs.part.Statement as stated
@@ -60,12 +59,12 @@ module _ {M : Type 1} (𝓤 : URA M) (H : Heap 𝓤) (A : Atoms 𝓤) (W : Given
 
   -- what the callee is passed
   abbrev to : Bound 𝓤 H A step.signature
-  to = ((κ, tt), (q, tt), tt, (d .script, (d .at, (n, tt))), (slice-val (d .script) ∷ [], (vint w64 (d .at) ∷ [], (vint w64 n ∷ [], tt))))
+  to = ((κ, tt), (q, tt), tt, (d .script, (d .at, (n, tt))), (script-val (d .script) ∷ [], (vint w64 (d .at) ∷ [], (vint w64 n ∷ [], tt))))
 
   exits : (r : RefT (List ℕ)) (u : Val) → now r ≡ tokensAt (now (d .script)) (d .at) n → ent 𝓤 (⋆ 𝓤 H A (‵ (R .own r (u ∷ [])) ∷ Token 𝓤 A κ q ∷ ‵ (ReaderOwn κ d) ∷ [])) (End part.ended of-reader 𝓤 H A stayed x u)
   exits r u e =
       qed W (‵ (R .own r (u ∷ [])) ∷ Token 𝓤 A κ q ∷ ‵ (ReaderOwn κ d) ∷ []) ∵ suffices ! _ (ends part.ended of-reader 𝓤 H A stayed x u W r (tt, (tt, tt)) (tt, (tt, tt)) e) $
-      move ! (1 ∷ []) $ frame ! $ nothing ! $ owned ! usize (Is usize) (uint-makes 𝓤 H A W w64) n _ (refl, ok) $ fjoin ! $ move ! (2 ∷ 0 ∷ []) $ fjoin ! $ frame ! $ done !
+      move ! (1 ∷ []) $ frame ! $ nothing ! $ numbered ! n ok $ move ! (2 ∷ 0 ∷ []) $ fjoin ! $ frame ! $ done !
 
   walk : Holds (hasTy (T′.mir (named 0)) mach) × WT mach → ent 𝓤 (onEntry 𝓤 H A part.signature (κ, tt) (q, tt) (d, (n, tt)) (x .4)) (WpFn 𝓤 H (𝓣 .C) (𝓣 .Λ) code.function (mach ∷ vint w64 n ∷ []) (End part.ended of-reader 𝓤 H A stayed x))
   walk wt =
@@ -74,8 +73,7 @@ module _ {M : Type 1} (𝓤 : URA M) (H : Heap 𝓤) (A : Atoms 𝓤) (W : Given
       assigns ! (of-opd ! (load ! (from ! (fld ! refl (stop !))) (look-in ! 6 (sub ! 0 refl (whole !))))) (from ! (stop !)) (init ! 2 refl (tt, wt .1 .0)) $
       assigns ! (of-opd ! (load ! (from ! (fld ! refl (stop !))) (look-in ! 6 (sub ! 1 refl (whole !))))) (from ! (stop !)) (init ! 0 refl (tt, wt .1 .1 .0)) $
       -- [_4; …; _3; …; _2; …; _1; …; room for _0; …; the token; what the arguments own]
-      move ! (11 ∷ []) $ fsplit ! $ use1 W (‵ (SliceOwn κ (d .script)) ⊛ ‵ (ReaderOwn κ d)) (apart 𝓤 H A W κ d) $ split ! $ move ! (2 ∷ []) $
-      owned ! usize (Is usize) (uint-makes 𝓤 H A W w64) (d .at) _ (refl, wt .1 .1 .0 .fits) $ fjoin ! $ move ! (1 ∷ 0 ∷ []) $ fjoin ! $ move ! (12 ∷ 0 ∷ []) $ join ! $
+      move ! (11 ∷ []) $ fsplit ! $ apart ! κ d $ move ! (2 ∷ []) $ numbered ! (d .at) (wt .1 .1 .0 .fits) $ move ! (1 ∷ 0 ∷ []) $ fjoin ! $ move ! (12 ∷ 0 ∷ []) $ join ! $
       calls-said ! 𝓣 step.ended of-place knows to (and-then ! (load ! (from ! (stop !)) (look ! 4 refl)) (and-then ! (load ! (from ! (stop !)) (look ! 2 refl)) (and-then ! (load ! (from ! (stop !)) (look ! 6 refl)) (no-more !)))) (λ u r e is.
       -- [the result; the token; what the struct owns; _4; …; _3; …; _2; …; _1; …; room for _0; …]
       land ! (from ! (stop !)) (init ! 11 refl (shr-slice-lawful 𝓤 H A W (named 0) κ u8 .typed r (u ∷ []) is .0)) $

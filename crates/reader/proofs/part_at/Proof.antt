@@ -12,15 +12,15 @@ use base.Fml.{Lft, Share}
 use prog.Wp.{Heap, WpFn, Tables}
 use ghost.Atoms.{Atoms}
 use contract.Running.{givenOf}
-use types.Kit.{Given, ‵, _⊛_, ⋆, _$_, _∵_, !, qed, by, move, drop, use1, split, join, fsplit, fjoin, suffices, frame, done}
+use types.Kit.{Given, ‵, ⋆, _$_, _∵_, !, qed, by, move, drop, join, fsplit, fjoin, suffices, frame, done}
 use types.Run.{look, init, forget, stop, from, load, and-then, no-more, land, returns, enter, alloc1, alloc0, params1, pass1, pass0, free1, free0}
 use denote.RattleType.{owns}
 use denote.Laws.{Is}
-use denote.Plain.{uint-makes, uint-vals, uint-tells}
+use denote.Plain.{uint-vals, uint-tells}
 use denote.Builtin.{u8, usize}
 use denote.Ref.{RefT, now}
-use denote.Slice.{ShrSlice, slice-vals, shr-slice-tells, shr-slice-lawful, shr-slice-copy}
-use denote.Steps.{nothing, owned}
+use denote.Slice.{ShrSlice, slice-vals, shr-slice-tells, shr-slice-lawful}
+use denote.Steps.{nothing}
 use denote.Triple.Statement.{Triple}
 use denote.Triple.Bound.{Bound}
 use denote.Triple.Entry.{onEntry}
@@ -33,7 +33,7 @@ use Rattle.reader.proofs.new.Met as new-thm
 use Rattle.reader.proofs.part as part
 use Rattle.reader.proofs.part.Symbol as part-def
 use Rattle.reader.proofs.part.Met as part-thm
-use Rattle.reader.proofs.Walk.{Fact, Says, End, ends, Token, calls-said, at-env, known, meets, script-stay, script-goes, number-stay, number-goes, local-typed, slice-val, SliceOwn}
+use Rattle.reader.proofs.Walk.{Fact, Says, End, ends, Token, calls-said, at-env, known, meets, script-stay, script-goes, number-stay, number-goes, local-typed, script-val, ScriptOwn, Made, numbered, script-twice}
 use Rattle.reader.proofs.part_at.Key.{name as #reader·part-at}
 use Rattle.reader.proofs.part_at as plainly
 use Rattle.reader.proofs.part_at.Statement as stated
@@ -44,7 +44,7 @@ abbrev found : Fact plainly.ended
 found κs a r = now r ≡ tokensAt (now (a .0)) (a .1 .0) (a .1 .1 .0)
 
 abbrev made : Fact new.ended
-made κs a r = (r .script ≡ a .0) × (r .at ≡ a .1 .0)
+made κs a = Made (a .0) (a .1 .0)
 
 abbrev of-reader : Fact part.ended
 of-reader κs a r = now r ≡ tokensAt (now (a .0 .script)) (a .0 .at) (a .1 .0)
@@ -54,7 +54,7 @@ stayed = (script-stay, (number-stay, (number-stay, tt)))
 
 module _ {M : Type 1} (𝓤 : URA M) (H : Heap 𝓤) (A : Atoms 𝓤) (W : Given 𝓤 H A) (𝓣 : Tables 𝓤 H) (knows-new : Triple 𝓤 (𝓣 .C new-def.name) (Says new.ended made 𝓤 H A)) (knows-part : Triple 𝓤 (𝓣 .C part-def.name) (Says part.ended of-reader 𝓤 H A)) (κ : Lft) (q : Share) (s : RefT (List ℕ)) (n c : ℕ) (ok : n < 2 ^ 64) (ok′ : c < 2 ^ 64) where
   abbrev v : Val
-  v = slice-val s
+  v = script-val s
 
   abbrev x : Bound 𝓤 H A plainly.signature
   x = ((κ, tt), (q, tt), tt, (s, (n, (c, tt))), (v ∷ [], (vint w64 n ∷ [], (vint w64 c ∷ [], tt))))
@@ -66,10 +66,10 @@ module _ {M : Type 1} (𝓤 : URA M) (H : Heap 𝓤) (A : Atoms 𝓤) (W : Given
   abbrev to-part : Reader → Val → Bound 𝓤 H A part.signature
   to-part d u = ((κ, tt), (q, tt), tt, (d, (c, tt)), (u ∷ [], (vint w64 c ∷ [], tt)))
 
-  exits : (r : RefT (List ℕ)) (u : Val) → now r ≡ tokensAt (now s) n c → ent 𝓤 (⋆ 𝓤 H A (‵ (ShrSlice (named 0) κ u8 .own r (u ∷ [])) ∷ Token 𝓤 A κ q ∷ ‵ (SliceOwn κ s) ∷ [])) (End plainly.ended found 𝓤 H A stayed x u)
+  exits : (r : RefT (List ℕ)) (u : Val) → now r ≡ tokensAt (now s) n c → ent 𝓤 (⋆ 𝓤 H A (‵ (ShrSlice (named 0) κ u8 .own r (u ∷ [])) ∷ Token 𝓤 A κ q ∷ ‵ (ScriptOwn κ s) ∷ [])) (End plainly.ended found 𝓤 H A stayed x u)
   exits r u e =
-      qed W (‵ (ShrSlice (named 0) κ u8 .own r (u ∷ [])) ∷ Token 𝓤 A κ q ∷ ‵ (SliceOwn κ s) ∷ []) ∵ suffices ! _ (ends plainly.ended found 𝓤 H A stayed x u W r (tt, (tt, (tt, tt))) (tt, (tt, (tt, tt))) e) $
-      move ! (1 ∷ []) $ frame ! $ nothing ! $ owned ! usize (Is usize) (uint-makes 𝓤 H A W w64) c _ (refl, ok′) $ fjoin ! $ owned ! usize (Is usize) (uint-makes 𝓤 H A W w64) n _ (refl, ok) $ fjoin ! $ move ! (2 ∷ 0 ∷ []) $ fjoin ! $ frame ! $ done !
+      qed W (‵ (ShrSlice (named 0) κ u8 .own r (u ∷ [])) ∷ Token 𝓤 A κ q ∷ ‵ (ScriptOwn κ s) ∷ []) ∵ suffices ! _ (ends plainly.ended found 𝓤 H A stayed x u W r (tt, (tt, (tt, tt))) (tt, (tt, (tt, tt))) e) $
+      move ! (1 ∷ []) $ frame ! $ nothing ! $ numbered ! c ok′ $ numbered ! n ok $ move ! (2 ∷ 0 ∷ []) $ fjoin ! $ frame ! $ done !
 
   walk : Is (ShrSlice (named 0) κ u8) s (v ∷ []) → ent 𝓤 (onEntry 𝓤 H A plainly.signature (κ, tt) (q, tt) (s, (n, (c, tt))) (x .4)) (WpFn 𝓤 H (𝓣 .C) (𝓣 .Λ) code.function (v ∷ vint w64 n ∷ vint w64 c ∷ []) (End plainly.ended found 𝓤 H A stayed x))
   walk p =
@@ -77,12 +77,11 @@ module _ {M : Type 1} (𝓤 : URA M) (H : Heap 𝓤) (A : Atoms 𝓤) (W : Given
       alloc1 ! (λ l₀. alloc1 ! (λ l₁. alloc1 ! (λ l₂. alloc1 ! (λ l₃. alloc1 ! (λ l₄. alloc0 ! $ params1 ! $
       pass1 ! (init ! 6 refl (shr-slice-lawful 𝓤 H A W (named 0) κ u8 .typed s (v ∷ []) p .0)) $ pass1 ! (init ! 4 refl (tt, record { fits = ok })) $ pass1 ! (init ! 2 refl (tt, record { fits = ok′ })) $ pass0 ! $
       -- [room for _4; …; _3; …; _2; …; _1; …; room for _0; …; the token; what the arguments own]
-      move ! (11 ∷ []) $ fsplit ! $ move ! (1 ∷ []) $ drop ! $ use1 W (‵ (SliceOwn κ s) ⊛ ‵ (SliceOwn κ s)) (shr-slice-copy 𝓤 H A W (named 0) κ u8 .twice s (v ∷ [])) $ split ! $
-      nothing ! $ owned ! usize (Is usize) (uint-makes 𝓤 H A W w64) n _ (refl, ok) $ fjoin ! $ move ! (1 ∷ 0 ∷ []) $ fjoin ! $ move ! (12 ∷ 0 ∷ []) $ join ! $
+      move ! (11 ∷ []) $ fsplit ! $ move ! (1 ∷ []) $ drop ! $ script-twice ! κ s $ nothing ! $ numbered ! n ok $ move ! (1 ∷ 0 ∷ []) $ fjoin ! $ move ! (12 ∷ 0 ∷ []) $ join ! $
       calls-said ! 𝓣 new.ended made knows-new to-new (and-then ! (load ! (from ! (stop !)) (look ! 8 refl)) (and-then ! (load ! (from ! (stop !)) (look ! 6 refl)) (no-more !))) (λ u d e is.
       -- [what the struct owns; the token; what s owns; room for _4; …; _3; …; _2; …; _1; …; room for _0; …]
       land ! (from ! (stop !)) (init ! 3 refl (local-typed 𝓤 H A W κ d u is)) $
-      nothing ! $ owned ! usize (Is usize) (uint-makes 𝓤 H A W w64) c _ (refl, ok′) $ fjoin ! $ move ! (1 ∷ 0 ∷ []) $ fjoin ! $ move ! (1 ∷ 0 ∷ []) $ join ! $
+      nothing ! $ numbered ! c ok′ $ move ! (1 ∷ 0 ∷ []) $ fjoin ! $ move ! (1 ∷ 0 ∷ []) $ join ! $
       calls-said ! 𝓣 part.ended of-reader knows-part (to-part d u) (and-then ! (load ! (from ! (stop !)) (look ! 2 refl)) (and-then ! (load ! (from ! (stop !)) (look ! 4 refl)) (no-more !))) (λ u′ r e′ is′.
       -- [the result; the token; what s owns; _4; …; _3; …; _2; …; _1; …; room for _0; …]
       land ! (from ! (stop !)) (init ! 11 refl (shr-slice-lawful 𝓤 H A W (named 0) κ u8 .typed r (u′ ∷ []) is′ .0)) $
