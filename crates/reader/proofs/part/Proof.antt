@@ -31,7 +31,7 @@ use Rattle.reader.proofs.Reader.Laws as T′
 use Rattle.script.proofs.tokens_at as step
 use Rattle.script.proofs.tokens_at.Symbol as step-def
 use Rattle.script.proofs.tokens_at.Met as step-thm
-use Rattle.reader.proofs.Walk.{Fact, Says, End, ends, Token, calls-said, at-env, known, meets, B, reader-stay, reader-goes, reader-vals, reader-tells, reader-typed, number-stay, number-goes, script-val, ScriptOwn, ReaderOwn, numbered, apart}
+use Rattle.reader.proofs.Walk.{Fact, Says, End, ends, Token, calls-said, at-env, known, meets, B, reader-stay, reader-goes, reader-vals, reader-tells, reader-typed, number-stay, number-goes, script-val, ReaderOwn, numbered, apart}
 use Rattle.reader.proofs.part.Key.{name as #reader·part}
 use Rattle.reader.proofs.part as part
 use Rattle.reader.proofs.part.Statement as stated
