@@ -25,7 +25,7 @@ use prog.Routine.{Routine, Env}
 use prog.Wp.{Heap, Env as Places, WpFn, Tables, Closed}
 use ghost.Atoms.{Atoms, sem}
 use contract.Lifetimes.{Lfts, Shares, AllOutlive}
-use contract.Monad.{fact, factI}
+use contract.Monad.{fact}
 use contract.Running.{GhostRules, Running, givenOf, tables, tablesOf}
 use types.Kit.{Given, Item, Post, Goal, Seq, Step, step, runs, lands, ‵, raw, _⊛_, given, ⋆, some, later, _$_, _∵_, !, qed, by, move, drop, use1, split, join, learn, pick, fsplit, fjoin, suffices, frame, await, done}
 use types.Part.{whole, sub, look-in}
@@ -51,7 +51,7 @@ use denote.Triple.Spec.{tripleOf}
 use denote.Triple.Table.{entered, cited}
 use denote.Triple.Walked.{Stay, Stays, Fit, stay-none, stay-none-slice, onExit, walkOf, Goes, AllGo, goes-none, goes-none-slice, ends-at, walked, walk-meets}
 use denote.Exit.{yes}
-use denote.Triple.Clauses.{Ended, Clauses, Lasts, closing, ensured, lasts}
+use denote.Triple.Clauses.{Ended, Clauses, Lasts, atExit, closing, ensured, lasts}
 use Rattle.reader.specs.declared.Reader.{Reader}
 use Rattle.reader.proofs.Reader as T
 use Rattle.reader.proofs.Reader.Laws as T′
@@ -65,19 +65,19 @@ module _ (T : Ended) where
     abbrev pub facts : Clauses 𝓤 T
     facts κs a = record { ghost = Unit {0}; requires = λ _. emp 𝓤; ensures = λ _ r _. fact 𝓤 (Q κs a r) }
 
-    module _ (H : Heap 𝓤) (A : Atoms 𝓤) where
-      abbrev pub Says : Contract 𝓤
-      Says = tripleOf 𝓤 H A (T .signature) (closing 𝓤 H A T facts)
+    abbrev pub Says : (H : Heap 𝓤) → Atoms 𝓤 → Contract 𝓤
+    Says H A = tripleOf 𝓤 H A (T .signature) (closing 𝓤 H A T facts)
 
-      module _ (hs : Stays (T .signature .params) (T .kept)) (x : Bound 𝓤 H A (T .signature)) (u : Val) where
-        abbrev pub End : SProp 𝓤
-        End = walkOf 𝓤 H A T hs facts .post (x, tt) u
+  module _ {M : Type 1} (𝓤 : URA M) (H : Heap 𝓤) (A : Atoms 𝓤) (c : Clauses 𝓤 T) (hs : Stays (T .signature .params) (T .kept)) (y : walkOf 𝓤 H A T hs c .Ghost) (u : Val) where
+    abbrev pub End : SProp 𝓤
+    End = walkOf 𝓤 H A T hs c .post y u
 
-        pub ends : Given 𝓤 H A → (r : Res (T .signature) (x .0)) (ws : Lasts T (x .0) (x .3)) → Fit T hs (x .0) (x .3) ws → Q (x .0) (x .3) r → ent 𝓤 (onExit 𝓤 H A T hs (x .0) (x .1) (x .4) u r (x .3) ws) End
-        ends W r ws fits e =
-            let P : SProp 𝓤 = onExit 𝓤 H A T hs (x .0) (x .1) (x .4) u r (x .3) ws in
-            let φ : SProp 𝓤 = fact 𝓤 (Q (x .0) (x .3) r) in
-            via 𝓤 (sep 𝓤 P φ) (via 𝓤 (sep 𝓤 φ P) (via 𝓤 (sep 𝓤 (emp 𝓤) P) (emp∗ 𝓤 P) (monoL 𝓤 P (factI 𝓤 (Q (x .0) (x .3) r) (emp 𝓤) e))) (comm∗ 𝓤 φ P)) (ends-at 𝓤 H A T hs facts W (x, tt) u r ws fits)
+    pub ends : Given 𝓤 H A → (r : Res (T .signature) (y .0 .0)) (ws : Lasts T (y .0 .0) (y .0 .3)) → Fit T hs (y .0 .0) (y .0 .3) ws → ent 𝓤 (emp 𝓤) (c (y .0 .0) (y .0 .3) .ensures (y .1) r (atExit T (y .0 .0) (y .0 .3) ws))
+        → ent 𝓤 (onExit 𝓤 H A T hs (y .0 .0) (y .0 .1) (y .0 .4) u r (y .0 .3) ws) End
+    ends W r ws fits shown =
+        let P : SProp 𝓤 = onExit 𝓤 H A T hs (y .0 .0) (y .0 .1) (y .0 .4) u r (y .0 .3) ws in
+        let E : SProp 𝓤 = c (y .0 .0) (y .0 .3) .ensures (y .1) r (atExit T (y .0 .0) (y .0 .3) ws) in
+        via 𝓤 (sep 𝓤 P E) (via 𝓤 (sep 𝓤 E P) (via 𝓤 (sep 𝓤 (emp 𝓤) P) (emp∗ 𝓤 P) (monoL 𝓤 P shown)) (comm∗ 𝓤 E P)) (ends-at 𝓤 H A T hs c W y u r ws fits)
 
 -- the token of a signature's one lifetime
 abbrev pub Token : {M : Type 1} (𝓤 : URA M) → Atoms 𝓤 → Lft → Share → Item 𝓤
@@ -107,18 +107,18 @@ module _ {M : Type 1} (𝓤 : URA M) (H : Heap 𝓤) (𝓜 : Model 𝓤 H) (𝓖
   known f r is c = cited 𝓤 H c 𝓜 𝓡 env f r is
 
   pub meets : (k : Name) (e : Fn) → Closed 𝓤 H (tables 𝓤 H 𝓜 𝓡 env .C) (tables 𝓤 H 𝓜 𝓡 env .Λ) k e
-      → (T : Ended) (Q : Fact T) (hs : Stays (T .signature .params) (T .kept)) → AllGo 𝓤 H (𝓖 .A) (givenOf 𝓤 H 𝓜 𝓖) (T .signature .lifetimes) (T .signature .params) (T .kept) hs
+      → (T : Ended) (c : Clauses 𝓤 T) (hs : Stays (T .signature .params) (T .kept)) → AllGo 𝓤 H (𝓖 .A) (givenOf 𝓤 H 𝓜 𝓖) (T .signature .lifetimes) (T .signature .params) (T .kept) hs
       → (sp : (κs : Lfts (T .signature .lifetimes)) → Spells (typesAt (T .signature .params) κs)) → ((κs : Lfts (T .signature .lifetimes)) → Tellss (typesAt (T .signature .params) κs) (Ises (typesAt (T .signature .params) κs)) (sp κs))
-      → ((κs : Lfts (T .signature .lifetimes)) (qs : Shares (T .signature .lifetimes)) (bounds : AllOutlive (T .signature .lifetimes) (T .signature .outlives) κs) (a : Args (T .signature) κs)
+      → ((κs : Lfts (T .signature .lifetimes)) (qs : Shares (T .signature .lifetimes)) (bounds : AllOutlive (T .signature .lifetimes) (T .signature .outlives) κs) (a : Args (T .signature) κs) (g : c κs a .ghost)
       → Are (typesAt (T .signature .params) κs) (Ises (typesAt (T .signature .params) κs)) a (valss (typesAt (T .signature .params) κs) (sp κs) a)
       → ent 𝓤 (onEntry 𝓤 H (𝓖 .A) (T .signature) κs qs a (valss (typesAt (T .signature .params) κs) (sp κs) a))
-      (WpFn 𝓤 H (at-env .C) (at-env .Λ) e (flat (typesAt (T .signature .params) κs) (valss (typesAt (T .signature .params) κs) (sp κs) a)) (End T Q 𝓤 H (𝓖 .A) hs (κs, qs, bounds, a, valss (typesAt (T .signature .params) κs) (sp κs) a))))
-      → Triple 𝓤 (𝓡 .run (env k)) (Says T Q 𝓤 H (𝓖 .A))
+      (WpFn 𝓤 H (at-env .C) (at-env .Λ) e (flat (typesAt (T .signature .params) κs) (valss (typesAt (T .signature .params) κs) (sp κs) a)) (walkOf 𝓤 H (𝓖 .A) T hs c .post ((κs, qs, bounds, a, valss (typesAt (T .signature .params) κs) (sp κs) a), g))))
+      → Triple 𝓤 (𝓡 .run (env k)) (tripleOf 𝓤 H (𝓖 .A) (T .signature) (closing 𝓤 H (𝓖 .A) T c))
   unfolding tablesOf
-  meets k e closed T Q hs gs sp tl walk =
-      entered 𝓤 H (Says T Q 𝓤 H (𝓖 .A)) (tables 𝓤 H 𝓜 𝓡 env .C) (tables 𝓤 H 𝓜 𝓡 env .Λ) k e closed
-      (walk-meets 𝓤 H (𝓖 .A) T hs (givenOf 𝓤 H 𝓜 𝓖) gs (facts T Q 𝓤) (WpFn 𝓤 H (at-env .C) (at-env .Λ) e) (WpFn-mono 𝓤 H (givenOf 𝓤 H 𝓜 𝓖 .laws) at-env e)
-      (walked 𝓤 H (𝓖 .A) T hs (facts T Q 𝓤) (WpFn 𝓤 H (at-env .C) (at-env .Λ) e) sp tl (λ κs qs bounds a g are. via 𝓤 _ (fst∗ 𝓤 _ (emp 𝓤)) (walk κs qs bounds a are))))
+  meets k e closed T c hs gs sp tl walk =
+      entered 𝓤 H (tripleOf 𝓤 H (𝓖 .A) (T .signature) (closing 𝓤 H (𝓖 .A) T c)) (tables 𝓤 H 𝓜 𝓡 env .C) (tables 𝓤 H 𝓜 𝓡 env .Λ) k e closed
+      (walk-meets 𝓤 H (𝓖 .A) T hs (givenOf 𝓤 H 𝓜 𝓖) gs c (WpFn 𝓤 H (at-env .C) (at-env .Λ) e) (WpFn-mono 𝓤 H (givenOf 𝓤 H 𝓜 𝓖 .laws) at-env e)
+      (walked 𝓤 H (𝓖 .A) T hs c (WpFn 𝓤 H (at-env .C) (at-env .Λ) e) sp tl (λ κs qs bounds a g are. via 𝓤 _ (fst∗ 𝓤 _ (c κs a .requires g)) (walk κs qs bounds a g are))))
 
 -- ---- the parameters
 abbrev pub script-slot : Slot 1
@@ -226,36 +226,38 @@ module _ (F : Reading) where
     body = seq (assign (place 2 []) (rvOpd (copy (place 1 (field 0 ∷ []))))) (seq (assign (place 3 []) (rvOpd (copy (place 1 (field 1 ∷ []))))) (seq (call (F .reads) (copy (place 2 []) ∷ copy (place 3 []) ∷ []) (place 0 [])) return));
   }
 
-  -- the signatures and the facts, of the function and of the function that reads
+  -- the signatures, of the function and of the function that reads, and what the second says
   abbrev pub ended : Ended
   ended = record { signature = record { lifetimes = 1; outlives = []; params = reader-slot ∷ []; result = plain (λ _. F .row) }; kept = (yes, tt) }
 
   abbrev pub step-ended : Ended
   step-ended = record { signature = record { lifetimes = 1; outlives = []; params = script-slot ∷ number-slot ∷ []; result = plain (λ _. F .row) }; kept = (yes, (yes, tt)) }
 
-  abbrev pub of-reader : Fact ended
-  of-reader κs a = F .found (a .0 .script) (a .0 .at)
-
   abbrev pub of-place : Fact step-ended
   of-place κs a = F .found (a .0) (a .1 .0)
 
-  module _ {M : Type 1} (𝓤 : URA M) (H : Heap 𝓤) (A : Atoms 𝓤) (W : Given 𝓤 H A) (𝓣 : Tables 𝓤 H) (knows : Triple 𝓤 (𝓣 .C (F .reads)) (Says step-ended of-place 𝓤 H A)) (κ : Lft) (q : Share) (d : Reader) where
+  -- what is found at the reader's place shows what the function's contract says
+  abbrev pub Shown : {M : Type 1} (𝓤 : URA M) → Clauses 𝓤 ended → Type 1
+  Shown 𝓤 c = (κs : Lfts 1) (a : Args (ended .signature) κs) (g : c κs a .ghost) (r : F .row .Denot) → F .found (a .0 .script) (a .0 .at) r → ent 𝓤 (emp 𝓤) (c κs a .ensures g r (atExit ended κs a (tt, tt)))
+
+  module _ {M : Type 1} (𝓤 : URA M) (H : Heap 𝓤) (A : Atoms 𝓤) (W : Given 𝓤 H A) (c : Clauses 𝓤 ended) (shown : Shown 𝓤 c) (𝓣 : Tables 𝓤 H) (knows : Triple 𝓤 (𝓣 .C (F .reads)) (Says step-ended of-place 𝓤 H A))
+      (κ : Lft) (q : Share) (d : Reader) (g : c (κ, tt) (d, tt) .ghost) where
     abbrev mach : Val
     mach = T′.lowered d
 
-    abbrev x : Bound 𝓤 H A (ended .signature)
-    x = ((κ, tt), (q, tt), tt, (d, tt), (mach ∷ [], tt))
+    abbrev y : walkOf 𝓤 H A ended (reader-stay, tt) c .Ghost
+    y = (((κ, tt), (q, tt), tt, (d, tt), (mach ∷ [], tt)), g)
 
     -- what the callee is passed
     abbrev to : Bound 𝓤 H A (step-ended .signature)
     to = ((κ, tt), (q, tt), tt, (d .script, (d .at, tt)), (script-val (d .script) ∷ [], (vint w64 (d .at) ∷ [], tt)))
 
-    exits : (r : F .row .Denot) (u : Val) → F .found (d .script) (d .at) r → ent 𝓤 (⋆ 𝓤 H A (‵ (F .row .own r (u ∷ [])) ∷ Token 𝓤 A κ q ∷ ‵ (ReaderOwn κ d) ∷ [])) (End ended of-reader 𝓤 H A (reader-stay, tt) x u)
+    exits : (r : F .row .Denot) (u : Val) → F .found (d .script) (d .at) r → ent 𝓤 (⋆ 𝓤 H A (‵ (F .row .own r (u ∷ [])) ∷ Token 𝓤 A κ q ∷ ‵ (ReaderOwn κ d) ∷ [])) (End ended 𝓤 H A c (reader-stay, tt) y u)
     exits r u e =
-        qed W (‵ (F .row .own r (u ∷ [])) ∷ Token 𝓤 A κ q ∷ ‵ (ReaderOwn κ d) ∷ []) ∵ suffices ! _ (ends ended of-reader 𝓤 H A (reader-stay, tt) x u W r (tt, tt) (tt, tt) e) $
+        qed W (‵ (F .row .own r (u ∷ [])) ∷ Token 𝓤 A κ q ∷ ‵ (ReaderOwn κ d) ∷ []) ∵ suffices ! _ (ends ended 𝓤 H A c (reader-stay, tt) y u W r (tt, tt) (tt, tt) (shown (κ, tt) (d, tt) g r e)) $
         move ! (1 ∷ []) $ frame ! $ nothing ! $ move ! (2 ∷ 0 ∷ []) $ fjoin ! $ frame ! $ done !
 
-    walk : Holds (hasTy (T′.mir (named 0)) mach) × WT mach → ent 𝓤 (onEntry 𝓤 H A (ended .signature) (κ, tt) (q, tt) (d, tt) (mach ∷ [], tt)) (WpFn 𝓤 H (𝓣 .C) (𝓣 .Λ) thin (mach ∷ []) (End ended of-reader 𝓤 H A (reader-stay, tt) x))
+    walk : Holds (hasTy (T′.mir (named 0)) mach) × WT mach → ent 𝓤 (onEntry 𝓤 H A (ended .signature) (κ, tt) (q, tt) (d, tt) (mach ∷ [], tt)) (WpFn 𝓤 H (𝓣 .C) (𝓣 .Λ) thin (mach ∷ []) (End ended 𝓤 H A c (reader-stay, tt) y))
     walk wt =
         qed W (Token 𝓤 A κ q ∷ ‵ (owns (B (κ, tt) ∷ []) (d, tt) (mach ∷ [], tt)) ∷ []) ∵ enter ! (𝓣 .C) (𝓣 .Λ) thin (mach ∷ []) _ $
         alloc1 ! (λ l₀. alloc1 ! (λ l₁. alloc1 ! (λ l₂. alloc1 ! (λ l₃. alloc0 ! $ params1 ! $ pass1 ! (init ! 4 refl wt) $ pass0 ! $
@@ -269,8 +271,9 @@ module _ (F : Reading) where
         returns ! (look ! 9 refl) $ forget ! 3 refl $ forget ! 5 refl $ forget ! 7 refl $ forget ! 9 refl $
         move ! (9 ∷ 10 ∷ []) $ free1 ! $ move ! (7 ∷ 8 ∷ []) $ free1 ! $ move ! (5 ∷ 6 ∷ []) $ free1 ! $ move ! (3 ∷ 4 ∷ []) $ free1 ! $ free0 ! $ by ! (exits r u e))))))
 
-  pub thin-meets : {M : Type 1} (𝓤 : URA M) (H : Heap 𝓤) (𝓜 : Model 𝓤 H) (𝓖 : GhostRules 𝓤 H) (𝓡 : Running 𝓤 H 𝓜) (env : Env) (k : Name) → Closed 𝓤 H (tables 𝓤 H 𝓜 𝓡 env .C) (tables 𝓤 H 𝓜 𝓡 env .Λ) k thin
-      → (reads : Routine) → env (F .reads) ≡ reads → Triple 𝓤 (𝓡 .run reads) (Says step-ended of-place 𝓤 H (𝓖 .A)) → Triple 𝓤 (𝓡 .run (env k)) (Says ended of-reader 𝓤 H (𝓖 .A))
-  thin-meets 𝓤 H 𝓜 𝓖 𝓡 env k closed reads is met =
-      meets 𝓤 H 𝓜 𝓖 𝓡 env k thin closed ended of-reader (reader-stay, tt) (reader-goes 𝓤 H (𝓖 .A) (givenOf 𝓤 H 𝓜 𝓖), tt) (λ κs. (reader-vals κs, tt)) (λ κs. (reader-tells κs, tt))
-      (λ κs qs bounds a are. walk 𝓤 H (𝓖 .A) (givenOf 𝓤 H 𝓜 𝓖) (at-env 𝓤 H 𝓜 𝓖 𝓡 env) (known 𝓤 H 𝓜 𝓖 𝓡 env (F .reads) reads is (Says step-ended of-place 𝓤 H (𝓖 .A)) met) (κs .0) (qs .0) (a .0) (reader-typed 𝓤 H (𝓖 .A) (givenOf 𝓤 H 𝓜 𝓖) κs (a .0) (are .0)))
+  pub thin-meets : {M : Type 1} (𝓤 : URA M) (H : Heap 𝓤) (𝓜 : Model 𝓤 H) (𝓖 : GhostRules 𝓤 H) (𝓡 : Running 𝓤 H 𝓜) (c : Clauses 𝓤 ended) → Shown 𝓤 c → (env : Env) (k : Name) → Closed 𝓤 H (tables 𝓤 H 𝓜 𝓡 env .C) (tables 𝓤 H 𝓜 𝓡 env .Λ) k thin
+      → (reads : Routine) → env (F .reads) ≡ reads → Triple 𝓤 (𝓡 .run reads) (Says step-ended of-place 𝓤 H (𝓖 .A)) → Triple 𝓤 (𝓡 .run (env k)) (tripleOf 𝓤 H (𝓖 .A) (ended .signature) (closing 𝓤 H (𝓖 .A) ended c))
+  thin-meets 𝓤 H 𝓜 𝓖 𝓡 c shown env k closed reads is met =
+      let W : Given 𝓤 H (𝓖 .A) = givenOf 𝓤 H 𝓜 𝓖 in
+      meets 𝓤 H 𝓜 𝓖 𝓡 env k thin closed ended c (reader-stay, tt) (reader-goes 𝓤 H (𝓖 .A) W, tt) (λ κs. (reader-vals κs, tt)) (λ κs. (reader-tells κs, tt))
+      (λ κs qs bounds a g are. walk 𝓤 H (𝓖 .A) W c shown (at-env 𝓤 H 𝓜 𝓖 𝓡 env) (known 𝓤 H 𝓜 𝓖 𝓡 env (F .reads) reads is (Says step-ended of-place 𝓤 H (𝓖 .A)) met) (κs .0) (qs .0) (a .0) g (reader-typed 𝓤 H (𝓖 .A) W κs (a .0) (are .0)))

@@ -43,7 +43,10 @@ pub fn part<'a>(r: Reader<'a>, count: usize) -> &'a [u8]
 pub fn moved_to<'a>(r: Reader<'a>, next: usize) -> Reader<'a>
     ensures { λ q. ⌜ (q .script ≡ r .entry .script) × (q .at ≡ next) ⌝ }
 {
-    Reader { script: r.script, at: next }
+    Reader {
+        script: r.script,
+        at: next,
+    }
 }
 
 // The event at a place of a script: a reader of the script is moved to the place, and reads there.
