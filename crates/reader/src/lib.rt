@@ -39,7 +39,7 @@ pub fn part<'a>(r: Reader<'a>, count: usize) -> &'a [u8]
     script::tokens_at(r.script, r.at, count)
 }
 
-// The reader moved on: the same script, at the place after what it read.
+// The reader moved on: the same script, at the place that is read next, as a reading hands it back.
 pub fn moved_to<'a>(r: Reader<'a>, next: usize) -> Reader<'a>
     ensures { λ q. ⌜ (q .script ≡ r .entry .script) × (q .at ≡ next) ⌝ }
 {

@@ -42,7 +42,7 @@ use Rattle.reader.proofs.part_at as plainly
 use Rattle.reader.proofs.part_at.Statement as stated
 use Rattle.reader.proofs.part_at.Code as code
 
--- what is said of the bytes, and what the two callees say
+-- what the two callees say
 abbrev made : Fact new.ended
 made κs a = Made (a .0) (a .1 .0)
 
