@@ -39,9 +39,26 @@ pub fn part<'a>(r: Reader<'a>, count: usize) -> &'a [u8]
     script::tokens_at(r.script, r.at, count)
 }
 
-// The event at a place of a script, by way of a reader.
+// The reader moved on: the same script, at the place that is read next, as a reading hands it back.
+pub fn moved_to<'a>(r: Reader<'a>, next: usize) -> Reader<'a>
+    ensures { λ q. ⌜ (q .script ≡ r .entry .script) × (q .at ≡ next) ⌝ }
+{
+    Reader {
+        script: r.script,
+        at: next,
+    }
+}
+
+// The event at a place of a script: a reader of the script is moved to the place, and reads there.
 pub fn next_event(script: &[u8], at: usize) -> EventRead
     ensures { λ r. ⌜ parsedIn (now (script .entry)) r ≡ eventAt (now (script .entry)) at ⌝ }
 {
-    event(new(script, at))
+    event(moved_to(new(script, 0), at))
+}
+
+// So many bytes at a place of a script, by way of a reader.
+pub fn part_at<'a>(script: &'a [u8], at: usize, count: usize) -> &'a [u8]
+    ensures { λ q. ⌜ now q ≡ tokensAt (now (script .entry)) at count ⌝ }
+{
+    part(new(script, at), count)
 }
