@@ -16,9 +16,9 @@ use Rattle.base.proofs.Cases.{and-yes}
 use Rattle.base.proofs.Lists.{getD-map}
 use Rattle.base.proofs.Rows.{apart, modify-agree, modify-other, modify-keeps, length-modify}
 use Rattle.sensor.specs.declared.single.Sensor.{Sensor}
-use Rattle.sensor.specs.Single.{freshSensor, readingRefusals, readingOf, powerCycleOf}
+use Rattle.sensor.specs.Single.{freshSensor, readingRefusals, powerCycleOf}
 use Rattle.sensor.specs.Single.{sensorTick}
-use Rattle.sensor.specs.Columns.{setRefusals, setOf}
+use Rattle.sensor.specs.Columns.{setRefusals, sensorAfter}
 use Rattle.sensor.proofs.Motion.{fresh-tick, fresh-power-cycle}
 use Rattle.sensors.specs.Sixteen.{conditionsBelow}
 use Rattle.sensors.proofs.Gather.{condition-below, condition-past}
@@ -34,9 +34,10 @@ use Rattle.band.specs.Sets.{formedRow, heldBy}
 use Rattle.band.proofs.Settling.{settle-again, fresh-settles, fresh-reset}
 use Rattle.drive.specs.declared.Drive.{Drive}
 use Rattle.drive.specs.State.{withRows, withSensors, conditionsOf, rowAt, valueAt, settleOf, tickOf}
+use Rattle.drive.specs.Events.{Shape, ticking, resetting, setting, sensing, placing, looking, shapeOf, ifSetting, actBy}
 use Rattle.drive.specs.Events.{Event, reading, elapse, reset, sensorSet, bandSet, geometry, transfer, noRow, rowRefusalsIf, heldUnder, formedFrom, answerOf, resetOf, actOf, stepOf}
 use Rattle.condition.specs.History.{granted, ownSet}
-use Rattle.condition.specs.Compared.{mentionedIn, refersIn, stays}
+use Rattle.condition.specs.Compared.{staysBy, mentionedIn, refersIn, stays}
 
 abbrev pub sensorAt : Drive → ℕ → Sensor
 sensorAt d s = getD (d .sensors) s freshSensor
@@ -241,8 +242,11 @@ module _ (B N : ℕ → Bool) where
       (λ x q. formed-within c bytes x q w) freshRow (d .rows) i b (p .within b t)) p
 
   -- what an event of a band in B refers to is in N
+  abbrev pub FitBy : Shape → Type 0
+  FitBy y = (b : ℕ) → B b ≡ true → (r : ℕ) → ifSetting y (λ i c bytes. eqb i b && refersIn r c bytes) false ≡ true → N r ≡ true
+
   abbrev pub Fit : Event → Type 0
-  Fit x = (b : ℕ) → B b ≡ true → (r : ℕ) → ownSet b (refersIn r) x ≡ true → N r ≡ true
+  Fit x = FitBy (shapeOf x)
 
   own-fit : (b : ℕ) (c : BandColumns) (bytes : List ℕ) → B b ≡ true → Fit (bandSet b c bytes) → (r : ℕ) → refersIn r c bytes ≡ true
       → N r ≡ true
@@ -269,15 +273,17 @@ module _ (B N : ℕ → Bool) where
   answer-same (geometry b start n) t w p = absurd (false≢true t)
   answer-same (transfer v start n) t w p = absurd (false≢true t)
 
+  shape-same : {d e : Drive} (y : Shape) → staysBy B N y ≡ true → FitBy y → Same B N d e → Same B N (actBy d y) (actBy e y)
+  shape-same (ticking n) t w p = ticks-same n p
+  shape-same (resetting n) t w p = reset-same n p
+  shape-same (setting b c bytes) t w p = band-same b c bytes (own-fit b c bytes t w) p
+  shape-same (sensing s y) t w p = sensor-same s (sensorAfter y) p
+  shape-same (placing b start n) t w p = absurd (false≢true t)
+  shape-same looking t w p = absurd (false≢true t)
+
   act-same : {d e : Drive} (x : Event) → stays B N x ≡ true → Fit x → Same B N d e → Same B N (actOf d x) (actOf e x)
   unfolding actOf stays
-  act-same (reading s v) t w p = sensor-same s (readingOf v) p
-  act-same (elapse n) t w p = ticks-same n p
-  act-same (reset n) t w p = reset-same n p
-  act-same (sensorSet s c) t w p = sensor-same s (setOf c) p
-  act-same (bandSet b c bytes) t w p = band-same b c bytes (own-fit b c bytes t w) p
-  act-same (geometry b start n) t w p = absurd (false≢true t)
-  act-same (transfer v start n) t w p = absurd (false≢true t)
+  act-same x t w p = shape-same (shapeOf x) t w p
 
   -- ---- an event on one side only
 
@@ -294,14 +300,12 @@ module _ (B N : ℕ → Bool) where
       other b t = modify-other f freshRow (d .rows) i b (apart B b i t n)
 
   -- an event that is struck changes nothing that the bands see, before they settle
-  act-struck : {d : Drive} (x : Event) → stays B N x ≡ false → Same B N d d → Same B N (actOf d x) d
-  unfolding actOf stays
-  act-struck (reading s v) t p = sensor-struck s (readingOf v) t p
-  act-struck (elapse n) t p = absurd (false≢true (sym t))
-  act-struck (reset n) t p = absurd (false≢true (sym t))
-  act-struck (sensorSet s c) t p = sensor-struck s (setOf c) t p
-  act-struck (bandSet b c bytes) t p = band-struck b (formedFrom c bytes) t p
-  act-struck {d} (geometry b start n) t p = record {
+  shape-struck : {d : Drive} (y : Shape) → staysBy B N y ≡ false → Same B N d d → Same B N (actBy d y) d
+  shape-struck (ticking n) t p = absurd (false≢true (sym t))
+  shape-struck (resetting n) t p = absurd (false≢true (sym t))
+  shape-struck (setting b c bytes) t p = band-struck b (formedFrom c bytes) t p
+  shape-struck (sensing s y) t p = sensor-struck s (sensorAfter y) t p
+  shape-struck (placing b start n) t p = record {
     bandCount = refl;
     sensorCount = refl;
     rowsLong = refl;
@@ -310,7 +314,11 @@ module _ (B N : ℕ → Bool) where
     sensor = λ s t. refl;
     within = p .within;
   }
-  act-struck (transfer v start n) t p = p
+  shape-struck looking t p = p
+
+  act-struck : {d : Drive} (x : Event) → stays B N x ≡ false → Same B N d d → Same B N (actOf d x) d
+  unfolding actOf stays
+  act-struck x t p = shape-struck (shapeOf x) t p
 
   -- ---- a step
 

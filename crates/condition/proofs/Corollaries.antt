@@ -11,9 +11,9 @@ use Rattle.band.specs.Rows.{freshRow, valueIn, settleRow, resetRow}
 use Rattle.band.proofs.Settling.{fresh-settles, fresh-reset}
 use Rattle.drive.specs.declared.Drive.{Drive}
 use Rattle.drive.specs.State.{freshDrive, conditionsOf, rowAt, valueAt, settleOf, fallOf, tickOf}
-use Rattle.drive.specs.Events.{Event, reading, elapse, reset, sensorSet, bandSet, geometry, transfer, actOf, stepOf, runOf}
+use Rattle.drive.specs.Events.{Event, Shape, ticking, resetting, setting, sensing, placing, looking, shapeOf, actBy, actOf, stepOf, runOf}
 use Rattle.condition.specs.History.{granted, ownSet}
-use Rattle.condition.specs.Compared.{refersIn, namedIn, stays, keep, only, compared}
+use Rattle.condition.specs.Compared.{staysBy, refersIn, namedIn, stays, keep, only, compared}
 use Rattle.condition.specs.Condition.{SameBand}
 use Rattle.condition.proofs.Agree.{settle-at, reset-at}
 use Rattle.condition.proofs.Strike.{All}
@@ -63,13 +63,15 @@ module _ (band : ℕ) where
 
   act-fresh : (d : Drive) (x : Event) → isTime x → rowAt d band ≡ freshRow → rowAt (actOf d x) band ≡ freshRow
   unfolding actOf stays
-  act-fresh d (reading s v) t e = absurd (false≢true t)
-  act-fresh d (elapse n) t e = ticks-fresh n d e
-  act-fresh d (reset n) t e = reset-at n d band ∙ ap (resetRow n) e ∙ fresh-reset n
-  act-fresh d (sensorSet s c) t e = absurd (false≢true t)
-  act-fresh d (bandSet b c bytes) t e = absurd (false≢true t)
-  act-fresh d (geometry b start n) t e = absurd (false≢true t)
-  act-fresh d (transfer w start n) t e = absurd (false≢true t)
+  act-fresh d x t e = go (shapeOf x) t
+    where
+      go : (y : Shape) → staysBy (λ b. false) (λ s. false) y ≡ true → rowAt (actBy d y) band ≡ freshRow
+      go (ticking n) t = ticks-fresh n d e
+      go (resetting n) t = reset-at n d band ∙ ap (resetRow n) e ∙ fresh-reset n
+      go (setting b c bytes) t = absurd (false≢true t)
+      go (sensing s y) t = absurd (false≢true t)
+      go (placing b start n) t = absurd (false≢true t)
+      go looking t = absurd (false≢true t)
 
   step-fresh : (d : Drive) (x : Event) → isTime x → rowAt d band ≡ freshRow → rowAt (stepOf d x) band ≡ freshRow
   unfolding stepOf

@@ -1,7 +1,7 @@
 -- Condition 3, first claim: equal compared lists leave the band alike.
 use Prim.Native.Nat.{ℕ}
 use mathlib.Core.Path.{_≡_, refl, sym, ap, _∙_}
-use mathlib.Core.Bool.{Bool, true, false, false≢true}
+use mathlib.Core.Bool.{Bool, true, false, false≢true, _&&_}
 use mathlib.Core.List.{List, [], _∷_, _++_}
 use lib.Dec.{eqb}
 use borrow.Author.Tests.{eqb-true, eq-eqb}
@@ -14,9 +14,9 @@ use Rattle.band.specs.Rows.{freshRow}
 use Rattle.band.proofs.Settling.{fresh-settles}
 use Rattle.drive.specs.declared.Drive.{Drive}
 use Rattle.drive.specs.State.{freshDrive, rowAt}
-use Rattle.drive.specs.Events.{Event, reading, elapse, reset, sensorSet, bandSet, geometry, transfer, stepOf, runOf}
+use Rattle.drive.specs.Events.{Event, Shape, ticking, resetting, setting, sensing, placing, looking, shapeOf, ifSetting, stepOf, runOf}
 use Rattle.condition.specs.History.{ownSet}
-use Rattle.condition.specs.Compared.{refersIn, namedIn, stays, only, compared, answerTo, answersTo}
+use Rattle.condition.specs.Compared.{staysBy, refersIn, namedIn, stays, only, compared, answerTo, answersTo}
 use Rattle.condition.specs.Condition.{SameBand}
 use Rattle.condition.proofs.Strike.{All, runs, outs, strike}
 use Rattle.condition.proofs.Agree.{Settled, Agree, Fit, band-value, answer-same, step-kept, step-struck}
@@ -49,13 +49,15 @@ module _ (band : ℕ) where
   pub no-own-set : (N : ℕ → Bool) (passes : BandColumns → List ℕ → Bool) (x : Event) → stays (only band) N x ≡ false
       → ownSet band passes x ≡ false
   unfolding stays
-  no-own-set N passes (reading s v) t = refl
-  no-own-set N passes (elapse n) t = refl
-  no-own-set N passes (reset n) t = refl
-  no-own-set N passes (sensorSet s c) t = refl
-  no-own-set N passes (bandSet b c bytes) t = sym (and-no (eqb b band) (passes c bytes) t)
-  no-own-set N passes (geometry b start n) t = refl
-  no-own-set N passes (transfer v start n) t = refl
+  no-own-set N passes x t = go (shapeOf x) t
+    where
+      go : (y : Shape) → staysBy (only band) N y ≡ false → ifSetting y (λ b c bytes. eqb b band && passes c bytes) false ≡ false
+      go (ticking n) t = refl
+      go (resetting n) t = refl
+      go (setting b c bytes) t = sym (and-no (eqb b band) (passes c bytes) t)
+      go (sensing s y) t = refl
+      go (placing b start n) t = refl
+      go looking t = refl
 
   silent : (N : ℕ → Bool) (d : Drive) (x : Event) → stays (only band) N x ≡ false → answerTo band d x ≡ []
   silent N d x t = rw (no-own-set N (λ c bytes. true) x t)

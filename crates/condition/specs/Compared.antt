@@ -9,7 +9,7 @@ use Rattle.evaluator.specs.Value.{mentions}
 use Rattle.token_reader.specs.Read.{TokenOutcome, elements, refusal, readTokens}
 use Rattle.band.specs.declared.BandColumns.{BandColumns}
 use Rattle.drive.specs.declared.Drive.{Drive}
-use Rattle.drive.specs.Events.{Event, reading, elapse, reset, sensorSet, bandSet, geometry, transfer, answerOf, stepOf}
+use Rattle.drive.specs.Events.{Event, Shape, ticking, resetting, setting, sensing, placing, looking, shapeOf, answerOf, stepOf}
 use Rattle.condition.specs.History.{ownSet}
 
 -- "that reads as tokens .. refers to that sensor's row"
@@ -28,14 +28,16 @@ namedIn band es row = any (ownSet band (refersIn row)) es
 
 -- Strike "all Sets on other bands, all geometry events and transfers, all readings and Sets on sensors that the band never names": what
 -- stays for a set of bands and a set of sensors
+abbrev pub staysBy : (bands sensors : ℕ → Bool) → Shape → Bool
+staysBy bands sensors (ticking n) = true
+staysBy bands sensors (resetting t) = true
+staysBy bands sensors (setting b c bytes) = bands b
+staysBy bands sensors (sensing s x) = sensors s
+staysBy bands sensors (placing b start n) = false
+staysBy bands sensors looking = false
+
 unfoldable pub stays : (bands sensors : ℕ → Bool) → Event → Bool
-stays bands sensors (reading s v) = sensors s
-stays bands sensors (elapse n) = true
-stays bands sensors (reset t) = true
-stays bands sensors (sensorSet s c) = sensors s
-stays bands sensors (bandSet b c bytes) = bands b
-stays bands sensors (geometry b start n) = false
-stays bands sensors (transfer w start n) = false
+stays bands sensors e = staysBy bands sensors (shapeOf e)
 
 unfoldable pub keep : {A : Type 0} → (A → Bool) → List A → List A
 keep p [] = []

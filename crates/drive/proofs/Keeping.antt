@@ -11,15 +11,15 @@ use Rattle.base.proofs.Jumps.{ticks-keep}
 use Rattle.base.proofs.Lists.{getD-same}
 use Rattle.base.proofs.Rows.{length-modify, modify-keeps, map-keeps}
 use Rattle.sensor.specs.declared.single.Sensor.{Sensor}
-use Rattle.sensor.specs.Single.{freshSensor, readingOf, powerCycleOf}
+use Rattle.sensor.specs.Single.{freshSensor, powerCycleOf}
 use Rattle.sensor.specs.Single.{sensorTick}
-use Rattle.sensor.specs.Columns.{setOf}
+use Rattle.sensor.specs.Columns.{sensorAfter}
 use Rattle.sensor.proofs.Keeping.{Keeps}
 use Rattle.band.specs.declared.Row.{Row}
 use Rattle.geometry.specs.declared.Span.{Span}
 use Rattle.drive.specs.declared.Drive.{Drive}
 use Rattle.drive.specs.State.{freshDrive, withRows, withSpans, withSensors, settleOf, tickOf, SameHeader}
-use Rattle.drive.specs.Events.{Event, reading, elapse, reset, sensorSet, bandSet, geometry, transfer, answerOf, actOf, stepOf, runOf}
+use Rattle.drive.specs.Events.{Event, Shape, ticking, resetting, setting, sensing, placing, looking, shapeOf, answerOf, actBy, actOf, stepOf, runOf}
 
 -- ---- a step, from what the bands' settling and the event do
 
@@ -63,17 +63,19 @@ tick-header : (d : Drive) → SameHeader (tickOf d) d
 unfolding tickOf settleOf
 tick-header d = others _ _ _ d (length-map (d .rows) _) refl (length-map (d .sensors) _)
 
-act-header : (d : Drive) (e : Event) → SameHeader (actOf d e) d
-unfolding actOf
-act-header d (reading s v) = others _ _ _ d refl refl (length-modify _ s (d .sensors))
-act-header d (elapse n) = ticks-keep tickOf (λ x. SameHeader x d) (λ x p. after (tick-header x) p) n d (same d)
-act-header d (reset t) =
+shape-header : (d : Drive) (x : Shape) → SameHeader (actBy d x) d
+shape-header d (ticking n) = ticks-keep tickOf (λ x. SameHeader x d) (λ x p. after (tick-header x) p) n d (same d)
+shape-header d (resetting t) =
     others _ _ _ d (length-map (d .rows) _) refl
     (cond-either (λ (l : List Sensor). length l ≡ length (d .sensors)) (eqb t 0) _ _ (λ q. length-map (d .sensors) powerCycleOf) (λ q. refl))
-act-header d (sensorSet s c) = others _ _ _ d refl refl (length-modify _ s (d .sensors))
-act-header d (bandSet b c tokens) = others _ _ _ d (length-modify _ b (d .rows)) refl refl
-act-header d (geometry b start n) = others _ _ _ d refl (length-set (d .spans) b _) refl
-act-header d (transfer w start n) = same d
+shape-header d (setting b c tokens) = others _ _ _ d (length-modify _ b (d .rows)) refl refl
+shape-header d (sensing s x) = others _ _ _ d refl refl (length-modify _ s (d .sensors))
+shape-header d (placing b start n) = others _ _ _ d refl (length-set (d .spans) b _) refl
+shape-header d looking = same d
+
+act-header : (d : Drive) (e : Event) → SameHeader (actOf d e) d
+unfolding actOf
+act-header d e = shape-header d (shapeOf e)
 
 pub step-keeps : (d : Drive) (e : Event) → SameHeader (stepOf d e) d
 step-keeps d e = step-by (λ x. SameHeader x d) d e (λ p. after (settle-header (actOf d e)) p) (act-header d e) (same d)
@@ -116,16 +118,18 @@ module _ (P : Sensor → Type 0) (k : Keeps P) where
   unfolding tickOf settleOf
   tick-each d h = mapped sensorTick (k .tick) d h
 
+  shape-each : (d : Drive) (x : Shape) → Each P d → Each P (actBy d x)
+  shape-each d (ticking n) h i = ticks-keep tickOf (Each P) tick-each n d h i
+  shape-each d (resetting t) h i =
+      cond-either (λ (l : List Sensor). P (getD l i freshSensor)) (eqb t 0) _ _ (λ q. mapped powerCycleOf (k .cycle) d h i) (λ q. h i)
+  shape-each d (setting b c tokens) h i = h i
+  shape-each d (sensing s x) h i = modify-keeps P (sensorAfter x) (k .event x) freshSensor (d .sensors) s i (h i)
+  shape-each d (placing b start n) h i = h i
+  shape-each d looking h i = h i
+
   act-each : (d : Drive) (e : Event) → Each P d → Each P (actOf d e)
   unfolding actOf
-  act-each d (reading s v) h i = modify-keeps P (readingOf v) (k .reading v) freshSensor (d .sensors) s i (h i)
-  act-each d (elapse n) h i = ticks-keep tickOf (Each P) tick-each n d h i
-  act-each d (reset t) h i =
-      cond-either (λ (l : List Sensor). P (getD l i freshSensor)) (eqb t 0) _ _ (λ q. mapped powerCycleOf (k .cycle) d h i) (λ q. h i)
-  act-each d (sensorSet s c) h i = modify-keeps P (setOf c) (k .set c) freshSensor (d .sensors) s i (h i)
-  act-each d (bandSet b c tokens) h i = h i
-  act-each d (geometry b start n) h i = h i
-  act-each d (transfer w start n) h i = h i
+  act-each d e h = shape-each d (shapeOf e) h
 
   -- what everything that happens to a sensor keeps, every event keeps of each sensor of the drive
   pub step-each : (d : Drive) (e : Event) → Each P d → Each P (stepOf d e)

@@ -11,8 +11,8 @@ use Rattle.base.specs.Refusals.{Refusal, when, firstOf, LowestOf}
 use Rattle.base.specs.Rows.{isRow, modify}
 use Rattle.answer.specs.Numbers.{numberOf}
 use Rattle.sensor.specs.declared.columns.SensorColumns.{SensorColumns}
-use Rattle.sensor.specs.Single.{readingRefusals, readingOf, powerCycleOf}
-use Rattle.sensor.specs.Columns.{setRefusals, setOf}
+use Rattle.sensor.specs.Single.{readingRefusals, powerCycleOf}
+use Rattle.sensor.specs.Columns.{setRefusals, SensorEvent, reads, sets, sensorAfter}
 use Rattle.token_reader.specs.Read.{mostTokenBytes, readTokens, answerIn, expressionIn}
 use Rattle.band.specs.declared.Side.{Side}
 use Rattle.band.specs.declared.Side.the-variants.{Read, Write}
@@ -39,40 +39,48 @@ pub data Event : Type 0 where
   geometry : (band start length : ℕ) → Event
   transfer : (direction start count : ℕ) → Event
 
--- One shape of an event: what it does to time, to resets and to a band. Every other event does none of these.
+-- One shape of an event: what it does to time, to all bands by a reset, to a band's row, to a sensor, to a band's place, or to nothing.
 pub data Shape : Type 0 where
   ticking : (ticks : ℕ) → Shape
   resetting : (type : ℕ) → Shape
   setting : (band : ℕ) (columns : BandColumns) (tokens : List ℕ) → Shape
-  other : Shape
+  sensing : (sensor : ℕ) (event : SensorEvent) → Shape
+  placing : (band start length : ℕ) → Shape
+  looking : Shape
 
 abbrev pub shapeOf : Event → Shape
-shapeOf (reading s v) = other
+shapeOf (reading s v) = sensing s (reads v)
 shapeOf (elapse n) = ticking n
 shapeOf (reset t) = resetting t
-shapeOf (sensorSet s c) = other
+shapeOf (sensorSet s c) = sensing s (sets c)
 shapeOf (bandSet b c bytes) = setting b c bytes
-shapeOf (geometry b start n) = other
-shapeOf (transfer w start n) = other
+shapeOf (geometry b start n) = placing b start n
+shapeOf (transfer w start n) = looking
 
 -- what is said of an elapse, of a reset and of a band Set, and of all other events
 abbrev pub ifTicking : {A : Type 0} → Shape → (ℕ → A) → A → A
 ifTicking (ticking n) f a = f n
 ifTicking (resetting t) f a = a
 ifTicking (setting b c bytes) f a = a
-ifTicking other f a = a
+ifTicking (sensing s x) f a = a
+ifTicking (placing b start n) f a = a
+ifTicking looking f a = a
 
 abbrev pub ifResetting : {A : Type 0} → Shape → (ℕ → A) → A → A
 ifResetting (ticking n) f a = a
 ifResetting (resetting t) f a = f t
 ifResetting (setting b c bytes) f a = a
-ifResetting other f a = a
+ifResetting (sensing s x) f a = a
+ifResetting (placing b start n) f a = a
+ifResetting looking f a = a
 
 abbrev pub ifSetting : {A : Type 0} → Shape → (ℕ → BandColumns → List ℕ → A) → A → A
 ifSetting (ticking n) f a = a
 ifSetting (resetting t) f a = a
 ifSetting (setting b c bytes) f a = f b c bytes
-ifSetting other f a = a
+ifSetting (sensing s x) f a = a
+ifSetting (placing b start n) f a = a
+ifSetting looking f a = a
 
 -- ---- the refusals of each event, in the order in which they are given
 
@@ -134,14 +142,16 @@ abbrev pub resetOf : ℕ → Drive → Drive
 resetOf t d =
     withSensors (cond (eqb t 0) (map powerCycleOf (d .sensors)) (d .sensors)) (withRows (map (resetRow t) (d .rows)) d)
 
+abbrev pub actBy : Drive → Shape → Drive
+actBy d (ticking n) = ticks tickOf n d
+actBy d (resetting t) = resetOf t d
+actBy d (setting b c bytes) = withRows (modify (formedFrom c bytes) b (d .rows)) d
+actBy d (sensing s x) = withSensors (modify (sensorAfter x) s (d .sensors)) d
+actBy d (placing b start n) = withSpans (placed (d .spans) b start n) d
+actBy d looking = d
+
 unfoldable pub actOf : Drive → Event → Drive
-actOf d (reading s v) = withSensors (modify (readingOf v) s (d .sensors)) d
-actOf d (elapse n) = ticks tickOf n d
-actOf d (reset t) = resetOf t d
-actOf d (sensorSet s c) = withSensors (modify (setOf c) s (d .sensors)) d
-actOf d (bandSet b c bytes) = withRows (modify (formedFrom c bytes) b (d .rows)) d
-actOf d (geometry b start n) = withSpans (placed (d .spans) b start n) d
-actOf d (transfer w start n) = d
+actOf d e = actBy d (shapeOf e)
 
 -- "Settling, after every event and tick"; "Any refusal leaves the drive .. untouched."
 unfoldable pub stepOf : Drive → Event → Drive

@@ -24,7 +24,7 @@ use Rattle.band.specs.declared.Row.{Row}
 use Rattle.band.specs.Rows.{freshRow, lockedOn, valueIn}
 use Rattle.drive.specs.declared.Drive.{Drive}
 use Rattle.drive.specs.State.{freshDrive, headerFits, conditionsOf, tickOf, stopNext}
-use Rattle.drive.specs.Events.{Event, Shape, ticking, resetting, setting, other, shapeOf, ifTicking, answerOf, elapsedStops, stopsOf, stepOf, runOf, along, answersOf, stopsIn}
+use Rattle.drive.specs.Events.{Event, Shape, ticking, resetting, setting, sensing, placing, looking, shapeOf, ifTicking, answerOf, elapsedStops, stopsOf, stepOf, runOf, along, answersOf, stopsIn}
 use Rattle.drive.proofs.Answers.{answer-below}
 use Rattle.drive.proofs.Keeping.{step-keeps, Each, run-each, fresh-each}
 use Rattle.elapse.proofs.Calm.{stops-few}
@@ -134,7 +134,9 @@ stops-sixteen d e h =
     elapsed (ticking n) = omega (arith, stops-few n d, few-counted runs (d .sensors), h)
     elapsed (resetting t) = omega arith
     elapsed (setting b c bytes) = omega arith
-    elapsed other = omega arith
+    elapsed (sensing s x) = omega arith
+    elapsed (placing b start n) = omega arith
+    elapsed looking = omega arith
 
 -- what an event gets on any drive that is reached
 along-few : (f : Drive → Event → ℕ) (w : ℕ) → 0 < w → ((d : Drive) (e : Event) → Sixteen d → f d e < w) → (d : Drive) (es : List Event) (i : ℕ) → Sixteen d

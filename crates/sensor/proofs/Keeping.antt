@@ -1,9 +1,7 @@
 -- What every event and every tick keeps of a sensor: the facts that the layers above carry from drive to drive.
-use Prim.Native.Nat.{ℕ}
 use Rattle.sensor.specs.declared.single.Sensor.{Sensor}
-use Rattle.sensor.specs.declared.columns.SensorColumns.{SensorColumns}
-use Rattle.sensor.specs.Single.{freshSensor, readingOf, powerCycleOf, sensorTick}
-use Rattle.sensor.specs.Columns.{setOf}
+use Rattle.sensor.specs.Single.{freshSensor, powerCycleOf, sensorTick}
+use Rattle.sensor.specs.Columns.{SensorEvent, reads, sets, sensorAfter}
 use Rattle.sensor.specs.Sound.{Sound, Timed}
 use Rattle.sensor.proofs.Soundness.{fresh-sound, tick-sound, reading-sound, power-cycle-sound, set-sound}
 use Rattle.sensor.proofs.Bounds.{fresh-timed, tick-timed, reading-timed, cycle-timed, set-timed}
@@ -11,13 +9,20 @@ use Rattle.sensor.proofs.Bounds.{fresh-timed, tick-timed, reading-timed
 -- it holds of the fresh sensor, and whatever happens to a sensor leaves it so
 pub record Keeps (P : Sensor → Type 0) : Type 0 where
   pub fresh : P freshSensor
-  pub reading : (v : ℕ) (s : Sensor) → P s → P (readingOf v s)
-  pub set : (c : SensorColumns) (s : Sensor) → P s → P (setOf c s)
+  pub event : (x : SensorEvent) (s : Sensor) → P s → P (sensorAfter x s)
   pub tick : (s : Sensor) → P s → P (sensorTick s)
   pub cycle : (s : Sensor) → P s → P (powerCycleOf s)
 
+event-sound : (x : SensorEvent) (s : Sensor) → Sound s → Sound (sensorAfter x s)
+event-sound (reads v) = reading-sound v
+event-sound (sets c) = set-sound c
+
 pub keeps-sound : Keeps Sound
-keeps-sound = record { fresh = fresh-sound; reading = reading-sound; set = set-sound; tick = tick-sound; cycle = power-cycle-sound }
+keeps-sound = record { fresh = fresh-sound; event = event-sound; tick = tick-sound; cycle = power-cycle-sound }
+
+event-timed : (x : SensorEvent) (s : Sensor) → Timed s → Timed (sensorAfter x s)
+event-timed (reads v) = reading-timed v
+event-timed (sets c) = set-timed c
 
 pub keeps-timed : Keeps Timed
-keeps-timed = record { fresh = fresh-timed; reading = reading-timed; set = set-timed; tick = tick-timed; cycle = cycle-timed }
+keeps-timed = record { fresh = fresh-timed; event = event-timed; tick = tick-timed; cycle = cycle-timed }

@@ -7,7 +7,7 @@ use Rattle.base.specs.Columns.{named, within}
 use Rattle.base.specs.Refusals.{Refusal, when, firstOf}
 use Rattle.sensor.specs.declared.single.Sensor.{Sensor}
 use Rattle.sensor.specs.declared.columns.SensorColumns.{SensorColumns}
-use Rattle.sensor.specs.Single.{enableOf, disableOf}
+use Rattle.sensor.specs.Single.{readingOf, enableOf, disableOf}
 
 -- "Thresholds and timeouts are 0 to 4,294,967,295; fractions 0 to 999." "A boolean is 0 or 1."
 abbrev pub greatestNumber : ℕ
@@ -64,3 +64,14 @@ switchedOf c s = cond (named 1 (c .mask)) (cond (eqb (c .enabled) 1) (enableOf s
 -- "A Set stores all its columns before it enables."
 unfoldable pub setOf : SensorColumns → Sensor → Sensor
 setOf c s = cond (columnsFit c) (switchedOf c (storedOf c s)) s
+
+-- ---- the events on one sensor
+
+pub data SensorEvent : Type 0 where
+  reads : (value : ℕ) → SensorEvent
+  sets : (columns : SensorColumns) → SensorEvent
+
+-- the sensor after an event on it
+abbrev pub sensorAfter : SensorEvent → Sensor → Sensor
+sensorAfter (reads v) = readingOf v
+sensorAfter (sets c) = setOf c
