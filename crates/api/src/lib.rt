@@ -234,7 +234,7 @@ fn event_by(
     requires { ⌜ (32766 ≤ length (now answers)) × (32766 ≤ length (now counts)) ⌝ }
     ensures { λ r. ⌜ answered r (now (stops .exit)) ≡ eventOn (readScript (now (script .entry))) (eventOf kind (now (tokens .entry))) ⌝ }
 {
-    let ran = run::run(script, 65_536, answers, counts);
+    let ran = run::run(script, run::WHOLE, answers, counts);
     let ran_answer = ran.answer;
     let number = ran_answer.number();
     if number != 0 {
@@ -269,7 +269,7 @@ pub extern "C" fn drive_event(
         return 2;
     }
     let event = kind_of(kind, fields);
-    let mut answers = [0; 32_766];
-    let mut counts = [0; 32_766];
+    let mut answers = [0; run::MOST_EVENTS];
+    let mut counts = [0; run::MOST_EVENTS];
     event_by(script, event, tokens, stops, &mut answers, &mut counts)
 }

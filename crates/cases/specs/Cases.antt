@@ -12,13 +12,13 @@ abbrev pub nextAt : List ℕ → ℕ → ℕ
 nextAt s at = min (length s) (at + 4 + sizeAt s at)
 
 -- the place so many cases after another
-unfoldable pub placeOf : List ℕ → ℕ → ℕ → ℕ
-placeOf s zero at = at
-placeOf s (suc n) at = placeOf s n (nextAt s at)
+unfoldable pub casePlace : List ℕ → ℕ → ℕ → ℕ
+casePlace s zero at = at
+casePlace s (suc n) at = casePlace s n (nextAt s at)
 
 -- the bytes between two places, without the length in front of them
 abbrev pub between : List ℕ → ℕ → ℕ → List ℕ
 between s at next = take (next - (at + 4)) (drop (at + 4) s)
 
 abbrev pub caseOf : List ℕ → ℕ → List ℕ
-caseOf s number = between s (placeOf s number 0) (nextAt s (placeOf s number 0))
+caseOf s number = between s (casePlace s number 0) (nextAt s (casePlace s number 0))

@@ -2,7 +2,7 @@
 ghost use mathlib.Core.Path.{_≡_};
 ghost use Prim.Native.Nat.{_+_, _*_, _≤_};
 ghost use lib.ListN.{length};
-ghost use Rattle.cases.specs.Cases.{sizeAt, nextAt, placeOf, caseOf};
+ghost use Rattle.cases.specs.Cases.{sizeAt, nextAt, casePlace, caseOf};
 
 fn joined(a: u8, b: u8, c: u8) -> usize
     ensures { λ r. ⌜ r ≡ a + b * 256 + c * 65536 ⌝ }
@@ -35,7 +35,7 @@ fn next_at(input: &[u8], at: usize) -> usize
 
 // The place of a case, counted from 0.
 fn place_of(input: &[u8], number: usize) -> usize
-    ensures { λ r. ⌜ (r ≡ placeOf (now (input .entry)) number 0) × (r ≤ length (now (input .entry))) ⌝ }
+    ensures { λ r. ⌜ (r ≡ casePlace (now (input .entry)) number 0) × (r ≤ length (now (input .entry))) ⌝ }
 {
     let mut at = 0;
     let mut left = number;

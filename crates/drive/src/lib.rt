@@ -2,6 +2,7 @@
 ghost use mathlib.Core.Bool.{not};
 ghost use mathlib.Core.Path.{_≡_};
 ghost use Rattle.base.specs.Rows.{isRow};
+ghost use Rattle.expression.specs.Elements.{mostElements};
 ghost use Rattle.drive.specs.Events.{sideOf};
 ghost use Rattle.drive.specs.State.{
   withRows,
@@ -17,6 +18,7 @@ use answer::Answer;
 use band::BandColumns;
 use band::Row;
 use band::Side;
+use expression::Expression;
 use geometry::Span;
 use sensor::Sensor;
 use sensor::SensorColumns;
@@ -82,10 +84,18 @@ impl Drive {
 
     pub const SENSORS: u64 = 16;
 
-    pub const ELEMENTS: usize = 32;
+    // The most elements of a row's expression.
+    pub const ELEMENTS: usize = Expression::ELEMENTS;
 
     // The greatest capacity, 2^48 blocks.
     pub const CAPACITY: u64 = 281_474_976_710_656;
+
+    // How many elements a row's expression has room for.
+    pub fn element_room() -> usize
+        ensures { λ r. ⌜ r ≡ mostElements ⌝ }
+    {
+        Drive::ELEMENTS
+    }
 
     // The drive with nothing stored.
     fn blank(capacity: u64, bands: usize, sensors: usize) -> Drive

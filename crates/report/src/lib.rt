@@ -65,7 +65,7 @@ fn list_by(
     requires { ⌜ (32766 ≤ length (now answers)) × (32766 ≤ length (now stops)) × (426486 ≤ length (now page)) ⌝ }
     ensures { λ r. ⌜ toldIn r (now (out .exit)) ≡ listOf (listing (readScript (now (script .entry)))) (now (out .entry)) ⌝ }
 {
-    let ran = run::run(script, 65_536, answers, stops);
+    let ran = run::run(script, run::WHOLE, answers, stops);
     let length = put_run(page, ran, answers, stops);
     hand(&page[..length], out)
 }
@@ -75,7 +75,7 @@ fn list_into(script: &[u8], out: &mut [u8], answers: &mut [u8], stops: &mut [u8]
     requires { ⌜ (32766 ≤ length (now answers)) × (32766 ≤ length (now stops)) × (426486 ≤ length (now out)) ⌝ }
     ensures { λ r. ⌜ toldIn r (now (out .exit)) ≡ listOf (listing (readScript (now (script .entry)))) (now (out .entry)) ⌝ }
 {
-    let ran = run::run(script, 65_536, answers, stops);
+    let ran = run::run(script, run::WHOLE, answers, stops);
     let length = put_run(out, ran, answers, stops);
     Listed {
         answer: Answer::Done,
@@ -97,8 +97,8 @@ pub fn list(script: &[u8], out: &mut [u8]) -> Listed
     ensures { λ r. ⌜ toldIn r (now (out .exit)) ≡ listOf (listing (readScript (now (script .entry)))) (now (out .entry)) ⌝ }
     ensures enough { λ r. ⌜ (426486 ≤ length (now (out .entry)) → numberOf (r .answer) ≡ 0) ⌝ }
 {
-    let mut answers = [0; 32_766];
-    let mut stops = [0; 32_766];
+    let mut answers = [0; run::MOST_EVENTS];
+    let mut stops = [0; run::MOST_EVENTS];
     if MOST <= out.len() {
         return list_into(script, out, &mut answers, &mut stops);
     }

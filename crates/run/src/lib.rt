@@ -9,6 +9,12 @@ use drive::Drive;
 use script::Checked;
 use script::HeaderRead;
 
+// More events than any script has: so many are all of them.
+pub const WHOLE: u64 = 65_536;
+
+// The most events of a script: each takes two bytes at least, after a header of three.
+pub const MOST_EVENTS: usize = 32_766;
+
 // What a run hands back: the place is that of a bad script, else 0; the count is that of the events run.
 pub struct Ran {
     pub answer: Answer,
@@ -99,8 +105,8 @@ pub fn run_two(
     ensures second { λ r. ⌜ outcomeIn (r .second) (now (answers2 .exit)) (now (stops2 .exit)) ≡ runScript (readScript (now (second .entry))) 65536 (now (answers2 .entry)) (now (stops2 .entry)) ⌝ }
     ensures condition { λ r. ⌜ Condition3OfTwo (now (first .entry)) (now (second .entry)) r (now (answers .exit)) (now (answers2 .exit)) ⌝ }
 {
-    let one = run(first, 65_536, answers, stops);
-    let two = run(second, 65_536, answers2, stops2);
+    let one = run(first, WHOLE, answers, stops);
+    let two = run(second, WHOLE, answers2, stops2);
     RanTwo {
         first: one,
         second: two,
