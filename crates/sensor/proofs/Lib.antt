@@ -5,3 +5,4 @@ pub mod Ticks
 pub mod Soundness
 pub mod Levels
 pub mod Lag
+pub mod Refused
