@@ -12,7 +12,9 @@ use Rattle.base.specs.Rows.{isRow, modify}
 use Rattle.answer.specs.Numbers.{numberOf}
 use Rattle.sensor.specs.declared.columns.SensorColumns.{SensorColumns}
 use Rattle.sensor.specs.Single.{readingRefusals, powerCycleOf}
-use Rattle.sensor.specs.Columns.{setRefusals, SensorEvent, reads, sets, sensorAfter}
+use Rattle.sensor.specs.declared.columns.SensorEvent.{SensorEvent}
+use Rattle.sensor.specs.declared.columns.SensorEvent.the-variants as S
+use Rattle.sensor.specs.Columns.{setRefusals, sensorAfter}
 use Rattle.token_reader.specs.Read.{mostTokenBytes, readTokens, answerIn, expressionIn}
 use Rattle.band.specs.declared.Side.{Side}
 use Rattle.band.specs.declared.Side.the-variants.{Read, Write}
@@ -49,10 +51,10 @@ pub data Shape : Type 0 where
   looking : Shape
 
 abbrev pub shapeOf : Event → Shape
-shapeOf (reading s v) = sensing s (reads v)
+shapeOf (reading s v) = sensing s (S.Reading v)
 shapeOf (elapse n) = ticking n
 shapeOf (reset t) = resetting t
-shapeOf (sensorSet s c) = sensing s (sets c)
+shapeOf (sensorSet s c) = sensing s (S.Set c)
 shapeOf (bandSet b c bytes) = setting b c bytes
 shapeOf (geometry b start n) = placing b start n
 shapeOf (transfer w start n) = looking

@@ -24,17 +24,17 @@ use Rattle.in_place.proofs.Storing.{EventRan, EventStored, finishOf}
 unfoldable pub finishRow : List Bool → ℕ → Row → Row
 finishRow cs t row = settleRow cs (resetRow t row)
 
-close-steady : (cs : List Bool) (t : ℕ) (row : Row) → isLockable row ≡ false → row ≡ finishRow cs t row
+finish-steady-row : (cs : List Bool) (t : ℕ) (row : Row) → isLockable row ≡ false → row ≡ finishRow cs t row
 unfolding finishRow
-close-steady cs t row e = not-lockable cs row (isLockable row) refl e ∙ ap (settleRow cs) (sym (steady-reset t row e))
+finish-steady-row cs t row e = not-lockable cs row (isLockable row) refl e ∙ ap (settleRow cs) (sym (steady-reset t row e))
 
-close-locks : (cs : List Bool) (t : ℕ) (row new : Row) → locksBy cs t row ≡ true → new ≡ lockUnder true row → new ≡ finishRow cs t row
+finish-locks : (cs : List Bool) (t : ℕ) (row new : Row) → locksBy cs t row ≡ true → new ≡ lockUnder true row → new ≡ finishRow cs t row
 unfolding finishRow
-close-locks cs t row new e q = q ∙ ap (λ (v : Bool). lockUnder v row) (sym e) ∙ sym (reset-settle cs t row)
+finish-locks cs t row new e q = q ∙ ap (λ (v : Bool). lockUnder v row) (sym e) ∙ sym (reset-settle cs t row)
 
-close-stays : (cs : List Bool) (t : ℕ) (row : Row) → locksBy cs t row ≡ false → row ≡ finishRow cs t row
+finish-stays : (cs : List Bool) (t : ℕ) (row : Row) → locksBy cs t row ≡ false → row ≡ finishRow cs t row
 unfolding finishRow
-close-stays cs t row e =
+finish-stays cs t row e =
     ap₂ (λ (a b : Bool). withLocked a b row) (none (row .«read_locked») (row .«read_lock_enabled»)) (none (row .«write_locked») (row .«write_lock_enabled»))
     ∙ ap (λ (v : Bool). lockUnder v row) (sym e)
     ∙ sym (reset-settle cs t row)
@@ -54,14 +54,14 @@ locked-steady row = ap₂ (λ (a b : Bool). a || b) (side (row .«read_locked»)
 
 -- ---- the loop
 
--- the rows before j are closed, and none of them is open where the flag is not set
+-- the rows before j are finished, and none of them is lockable where the flag is not set
 pub record RowsFinished (y : Drive) (t : ℕ) (cs : List Bool) (x : Drive) (o : Bool) (j : ℕ) : Type 0 where
   pub drive : x ≡ withRows (mapTo (finishRow cs t) j (y .rows)) y
   pub flag : o ≡ false → any isLockable (take j (x .rows)) ≡ false
 
-pub close-begin : (y : Drive) (t : ℕ) (cs : List Bool) (o : Bool) → RowsFinished y t cs y o 0
+pub finish-begin : (y : Drive) (t : ℕ) (cs : List Bool) (o : Bool) → RowsFinished y t cs y o 0
 unfolding any
-close-begin y t cs o = record { drive = refl; flag = λ _. refl }
+finish-begin y t cs o = record { drive = refl; flag = λ _. refl }
 
 steady-next : (j : ℕ) (rows : List Row) (v : Row) → any isLockable (take j rows) ≡ false → isLockable v ≡ false → any isLockable (take (suc j) (set rows j v)) ≡ false
 unfolding any
@@ -80,7 +80,7 @@ steady-whole (suc n) (row ∷ rows) h e =
     ap₂ (λ (a b : Bool). a || b) (f .0) (steady-whole n rows (omega (arith, h)) (f .1))
 
 module _ (y : Drive) (t : ℕ) (cs : List Bool) (x : Drive) (o : Bool) (j : ℕ) (d : Row) (g : RowsFinished y t cs x o j) where
-  -- the next row closed, whatever is stored for it
+  -- the next row finished, whatever is stored for it
   next-row : (v : Row) (o' : Bool) → v ≡ finishRow cs t (getD (x .rows) j d) → (o' ≡ false → (o ≡ false) × (isLockable v ≡ false))
       → RowsFinished y t cs (withRows (set (x .rows) j v) x) o' (j + 1)
   next-row v o' e f = record {
@@ -94,22 +94,22 @@ module _ (y : Drive) (t : ℕ) (cs : List Bool) (x : Drive) (o : Bool) (j : ℕ)
   same-row o' e f =
       subst (λ (rows : List Row). RowsFinished y t cs (withRows rows x) o' (j + 1)) (set-same (x .rows) j d) (next-row (getD (x .rows) j d) o' e f)
 
-  pub close-lock : (w : Bool) (new : Row) → w ≡ locksBy cs t (getD (x .rows) j d) → w ≡ true → new ≡ lockUnder true (getD (x .rows) j d)
+  pub finish-lock : (w : Bool) (new : Row) → w ≡ locksBy cs t (getD (x .rows) j d) → w ≡ true → new ≡ lockUnder true (getD (x .rows) j d)
       → RowsFinished y t cs (withRows (set (x .rows) j new) x) o (j + 1)
-  close-lock w new q f r =
-      next-row new o (close-locks cs t (getD (x .rows) j d) new (sym q ∙ f) r) (λ z. (z, ap isLockable r ∙ locked-steady (getD (x .rows) j d)))
+  finish-lock w new q f r =
+      next-row new o (finish-locks cs t (getD (x .rows) j d) new (sym q ∙ f) r) (λ z. (z, ap isLockable r ∙ locked-steady (getD (x .rows) j d)))
 
-  pub close-stay : (w : Bool) → w ≡ locksBy cs t (getD (x .rows) j d) → w ≡ false → RowsFinished y t cs x true (j + 1)
-  close-stay w q f = same-row true (close-stays cs t (getD (x .rows) j d) (sym q ∙ f)) (λ z. absurd (true≢false z))
+  pub finish-stay : (w : Bool) → w ≡ locksBy cs t (getD (x .rows) j d) → w ≡ false → RowsFinished y t cs x true (j + 1)
+  finish-stay w q f = same-row true (finish-stays cs t (getD (x .rows) j d) (sym q ∙ f)) (λ z. absurd (true≢false z))
 
-  pub close-pass : (u : Bool) → u ≡ isLockable (getD (x .rows) j d) → u ≡ false → RowsFinished y t cs x o (j + 1)
-  close-pass u p e =
+  pub finish-pass : (u : Bool) → u ≡ isLockable (getD (x .rows) j d) → u ≡ false → RowsFinished y t cs x o (j + 1)
+  finish-pass u p e =
       let f : isLockable (getD (x .rows) j d) ≡ false = sym p ∙ e in
-      same-row o (close-steady cs t (getD (x .rows) j d) f) (λ z. (z, f))
+      same-row o (finish-steady-row cs t (getD (x .rows) j d) f) (λ z. (z, f))
 
 -- by the names that the drive and the flag have where the ways meet
-pub close-as : {y : Drive} {t : ℕ} {cs : List Bool} {x x' : Drive} {o o' : Bool} {j : ℕ} → RowsFinished y t cs x o j → x' ≡ x → o' ≡ o → RowsFinished y t cs x' o' j
-close-as g ex eo = rw (ex, eo) g
+pub finish-as : {y : Drive} {t : ℕ} {cs : List Bool} {x x' : Drive} {o o' : Bool} {j : ℕ} → RowsFinished y t cs x o j → x' ≡ x → o' ≡ o → RowsFinished y t cs x' o' j
+finish-as g ex eo = rw (ex, eo) g
 
 map-twice : {A : Type 0} (f g : A → A) (l : List A) → map (λ x. f (g x)) l ≡ map f (map g l)
 map-twice f g [] = refl
@@ -118,20 +118,20 @@ map-twice f g (x ∷ l) = ap (λ (m : List _). f (g x) ∷ m) (map-twice f g l)
 -- at the loop's end the event has run, and the flag is right
 module _ {d : Drive} {e : Event} {a z : ℕ} {y x : Drive} {o due o' : Bool} {t j : ℕ} {cs : List Bool} (k : length (y .rows) ≡ 16) (h : EventStored d e a z y o due t)
     (ec : cs ≡ conditionsBelow (y .«sensor_count») (y .sensors)) (g : RowsFinished y t cs x o' j) (m : 16 ≤ j) where
-  all-closed : x ≡ withRows (map (finishRow cs t) (y .rows)) y
-  all-closed = g .drive ∙ ap (λ (rows : List Row). withRows rows y) (mapTo-all (finishRow cs t) j (y .rows) (omega (arith, k, m)))
+  all-finished : x ≡ withRows (map (finishRow cs t) (y .rows)) y
+  all-finished = g .drive ∙ ap (λ (rows : List Row). withRows rows y) (mapTo-all (finishRow cs t) j (y .rows) (omega (arith, k, m)))
 
-  pub closed-ran : EventRan d e a z x
+  pub finished-ran : EventRan d e a z x
   unfolding finishOf settleOf conditionsOf finishRow
-  closed-ran = record {
+  finished-ran = record {
     answer = h .answer;
     stops = h .stops;
-    drive = all-closed
+    drive = all-finished
         ∙ ap (λ (rows : List Row). withRows rows y) (map-twice (settleRow cs) (resetRow t) (y .rows) ∙ ap (λ (w : List Bool). map (settleRow w) (map (resetRow t) (y .rows))) ec)
         ∙ h .whole;
   }
 
-  pub closed-flag : o' ≡ false → any isLockable (x .rows) ≡ false
-  closed-flag q =
+  pub finished-flag : o' ≡ false → any isLockable (x .rows) ≡ false
+  finished-flag q =
       steady-whole j (x .rows)
-      (let l : length (x .rows) ≡ 16 = ap (λ (w : Drive). length (w .rows)) all-closed ∙ length-map (y .rows) _ ∙ k in omega (arith, l, m)) (g .flag q)
+      (let l : length (x .rows) ≡ 16 = ap (λ (w : Drive). length (w .rows)) all-finished ∙ length-map (y .rows) _ ∙ k in omega (arith, l, m)) (g .flag q)

@@ -4,10 +4,12 @@ use Prim.Native.Nat.{ℕ, _≤_, _<_}
 use native.Mathlib.Omega.{arith}
 use mathlib.Core.Bool.{Bool, true, false, not, cond, _&&_, Bool·beq}
 use mathlib.Core.List.{List, [], _∷_, map}
-use lib.Dec.{ltb}
+use mathlib.Core.Logic.{_≢_}
+use lib.Dec.{eqb, ltb}
 use lib.ListN.{length}
-use borrow.Author.Tests.{lt-ltb, le-ltb}
+use borrow.Author.Tests.{lt-ltb, le-ltb, eq-eqb, ne-eqb}
 use Rattle.base.specs.Lists.{oneIf, any, count}
+use Rattle.base.specs.Rows.{isRow}
 use Rattle.base.proofs.Cases.{cond-true, cond-false}
 use Rattle.base.proofs.Lists.{few-counted}
 use Rattle.base.proofs.Jumps.{quiet-ticks, quiet-stops}
@@ -15,18 +17,32 @@ use Rattle.answer.specs.declared.Answer.{Answer}
 use Rattle.answer.specs.Numbers.{numberOf}
 use Rattle.sensor.specs.declared.single.Sensor.{Sensor}
 use Rattle.sensor.specs.declared.single.SensorAnswer.{SensorAnswer}
-use Rattle.sensor.specs.Single.{sensorTick, runs, endsNext, Answers}
+use Rattle.sensor.specs.declared.columns.SensorColumns.{SensorColumns}
+use Rattle.sensor.specs.Single.{readingAnswer, readingOf, sensorTick, runs, endsNext, Answers}
 use Rattle.sensor.specs.Parts.{loweredBy}
+use Rattle.sensor.specs.Columns.{setAnswer, setOf, sensorAnswer, sensorAfter}
 use Rattle.sensors.specs.declared.Passed.{Passed}
 use Rattle.sensors.specs.Sixteen.{Passes}
 use Rattle.sensors.specs.Parts.{quietTicks}
 use Rattle.sensors.proofs.Quiet.{AllQuiet, quietTicks-quiet, sensors-jump}
 use Rattle.band.specs.declared.Row.{Row}
 use Rattle.band.specs.declared.BandColumns.{BandColumns}
-use Rattle.band.specs.Rows.{settleRow}
+use Rattle.band.specs.declared.Side.{Side}
+use Rattle.band.specs.Rows.{closedOn, settleRow}
 use Rattle.band.specs.Parts.{isLockable}
+use Rattle.geometry.specs.declared.Span.{Span}
+use Rattle.geometry.specs.Events.{transferAnswer}
+use Rattle.drive.specs.Events.{sideOf}
+use Rattle.drive.specs.declared.Kind.{Kind}
+use Rattle.drive.specs.declared.Kind.the-variants as K
 use Rattle.row_set.specs.declared.RowAnswer.{RowAnswer}
 use Rattle.row_set.specs.Forming.{SetsRow}
+use Rattle.base.proofs.Rows.{row-there}
+use Rattle.sensor.specs.declared.columns.SensorEvent.{SensorEvent}
+use Rattle.sensor.specs.declared.columns.SensorEvent.the-variants as S
+use Rattle.in_place.specs.declared.Change.{Change}
+use Rattle.in_place.specs.declared.Change.the-variants as C
+use Rattle.in_place.specs.Changes.{noReset, sensorChange, rowChange, resetChange, changeOf}
 use Rattle.in_place.specs.declared.SensorAfter.{SensorAfter}
 use Rattle.in_place.specs.declared.RowAfter.{RowAfter}
 use Rattle.in_place.specs.declared.SensorsAfter.{SensorsAfter}
@@ -42,12 +58,21 @@ pub was-false : (a b : Bool) → a ≡ false → b ≡ not (Bool·beq a b)
 was-false a true e = ap (λ (x : Bool). not (Bool·beq x true)) (sym e)
 was-false a false e = ap (λ (x : Bool). not (Bool·beq x false)) (sym e)
 
-pub moves : (n : ℕ) (new one : Sensor) (r : SensorAnswer) (m : SensorAfter) → Answers n new r → LeavesSensor (numberOf (r .answer)) (r .sensor) one m → LeavesSensor n new one m
-moves n new one r m p q = record {
-  number-is = q .number-is ∙ p .answer;
-  sensor-is = q .sensor-is ∙ p .sensor;
-  turned-is = q .turned-is ∙ ap (λ (s : Sensor). not (Bool·beq (one .condition) (s .condition))) (p .sensor);
+-- what a sensor answered, as it is handed on
+pub sensor-left : {n : ℕ} {new one : Sensor} {r : SensorAnswer} (m : SensorAfter) → Answers n new r → m .number ≡ numberOf (r .answer) → m .sensor ≡ r .sensor
+    → m .turned ≡ not (Bool·beq (one .condition) (r .sensor .condition)) → LeavesSensor n new one m
+sensor-left {one = one} m p en es et = record {
+  number-is = en ∙ p .answer;
+  sensor-is = es ∙ p .sensor;
+  turned-is = et ∙ ap (λ (s : Sensor). not (Bool·beq (one .condition) (s .condition))) (p .sensor);
 }
+
+-- a reading's answer, and a Set's, by the event that it is
+pub answers-reading : {event : SensorEvent} (one : Sensor) (v : ℕ) {r q : SensorAnswer} → event ≡ S.Reading v → Answers (readingAnswer v) (readingOf v one) r → q ≡ r → Answers (sensorAnswer event) (sensorAfter event one) q
+answers-reading one v e h w = rw (e, w) h
+
+pub answers-set : {event : SensorEvent} (one : Sensor) (c : SensorColumns) {r q : SensorAnswer} → event ≡ S.Set c → Answers (setAnswer c) (setOf c one) r → q ≡ r → Answers (sensorAnswer event) (sensorAfter event one) q
+answers-set one c e h w = rw (e, w) h
 
 -- ---- one row
 
@@ -109,5 +134,65 @@ pub passes-fits : (l : List Sensor) (n : ℕ) (r : Passed) → Passes n l r → 
 passes-fits l n r p = omega (arith, p .few, few-counted runs l)
 
 -- a transfer's answer, where the direction is one
-pub asked-is : (w a n : ℕ) (r : Answer) → w ≤ 1 → numberOf r ≡ n → a ≡ numberOf r → a ≡ cond (ltb 1 w) 2 n
-asked-is w a n r h e q = cond-false (ltb 1 w) _ _ _ (le-ltb 1 w h) (q ∙ e)
+pub asked-is : (capacity bands : ℕ) (rows : List Row) (spans : List Span) (w start n a : ℕ) (side : Side) (closed : List Bool) (r : Answer) → w ≤ 1 → side ≡ sideOf w → closed ≡ map (closedOn side) rows
+    → numberOf r ≡ transferAnswer capacity bands spans closed start n → a ≡ numberOf r → a ≡ cond (ltb 1 w) 2 (transferAnswer capacity bands spans (map (closedOn (sideOf w)) rows) start n)
+asked-is capacity bands rows spans w start n a side closed r h es ec e q =
+    cond-false (ltb 1 w) _ _ _ (le-ltb 1 w h)
+    (q ∙ e ∙ ap (λ (l : List Bool). transferAnswer capacity bands spans l start n) (ec ∙ ap (λ (z : Side). map (closedOn z) rows) es))
+
+-- ---- the change of an event
+
+there : (count i : ℕ) (t : Bool) → t ≡ not (isRow count i) → t ≡ true → isRow count i ≡ false
+there count i t p e = go (isRow count i) (sym p ∙ e)
+  where
+    go : (b : Bool) → not b ≡ true → b ≡ false
+    go true q = sym q
+    go false q = refl
+
+module _ (count i : ℕ) (t : Bool) (p : t ≡ not (isRow count i)) where
+  pub no-sensor : (event : SensorEvent) → t ≡ true → C.Nothing 1 noReset ≡ sensorChange count i event
+  no-sensor event e = cond-false (isRow count i) _ _ _ (there count i t p e) refl
+
+  pub one-sensor : (event : SensorEvent) → t ≡ false → C.OneSensor i event ≡ sensorChange count i event
+  one-sensor event e = cond-true (isRow count i) _ _ _ (row-there count i t p e) refl
+
+  pub no-row : (c : BandColumns) → t ≡ true → C.Nothing 1 noReset ≡ rowChange count i c
+  no-row c e = cond-false (isRow count i) _ _ _ (there count i t p e) refl
+
+  pub one-row : (c : BandColumns) → t ≡ false → C.OneRow i c ≡ rowChange count i c
+  one-row c e = cond-true (isRow count i) _ _ _ (row-there count i t p e) refl
+
+pub power-cycle : (t : ℕ) → t ≡ 0 → C.PowerCycle ≡ resetChange t
+power-cycle t e = cond-true (eqb t 0) _ _ _ (eq-eqb t 0 e) refl
+
+pub other-reset : (t n : ℕ) → t ≢ 0 → n ≡ cond (ltb 2 t) 2 0 → C.Nothing n t ≡ resetChange t
+other-reset t n e q = cond-false (eqb t 0) _ _ _ (ne-eqb t 0 e) (ap (λ (m : ℕ). C.Nothing m t) q)
+
+module _ (sensors bands : ℕ) (kind : Kind) where
+  pub change-reading : (s v : ℕ) (r : Change) → kind ≡ K.Reading s v → r ≡ sensorChange sensors s (S.Reading v) → r ≡ changeOf sensors bands kind
+  unfolding changeOf
+  change-reading s v r q e = e ∙ ap (changeOf sensors bands) (sym q)
+
+  pub change-elapse : (n : ℕ) → kind ≡ K.Elapse n → C.Elapse n ≡ changeOf sensors bands kind
+  unfolding changeOf
+  change-elapse n q = ap (changeOf sensors bands) (sym q)
+
+  pub change-reset : (t : ℕ) (r : Change) → kind ≡ K.Reset t → r ≡ resetChange t → r ≡ changeOf sensors bands kind
+  unfolding changeOf
+  change-reset t r q e = e ∙ ap (changeOf sensors bands) (sym q)
+
+  pub change-set : (s : ℕ) (c : SensorColumns) (r : Change) → kind ≡ K.SensorSet s c → r ≡ sensorChange sensors s (S.Set c) → r ≡ changeOf sensors bands kind
+  unfolding changeOf
+  change-set s c r q e = e ∙ ap (changeOf sensors bands) (sym q)
+
+  pub change-row : (b : ℕ) (c : BandColumns) (r : Change) → kind ≡ K.BandSet b c → r ≡ rowChange bands b c → r ≡ changeOf sensors bands kind
+  unfolding changeOf
+  change-row b c r q e = e ∙ ap (changeOf sensors bands) (sym q)
+
+  pub change-spans : (b start n : ℕ) → kind ≡ K.Geometry b start n → C.Spans b start n ≡ changeOf sensors bands kind
+  unfolding changeOf
+  change-spans b start n q = ap (changeOf sensors bands) (sym q)
+
+  pub change-none : (w start n : ℕ) → kind ≡ K.Transfer w start n → C.Transfer w start n ≡ changeOf sensors bands kind
+  unfolding changeOf
+  change-none w start n q = ap (changeOf sensors bands) (sym q)

@@ -1,16 +1,12 @@
 -- The loop over the events of a script: the events run so far and what they left, and the next one.
 use mathlib.Core.Path.{_≡_, refl, sym, ap, _∙_, subst}
-use Prim.Native.Nat.{ℕ, zero, suc, _+_, _-_, _*_, _^_, _≤_, _<_}
+use Prim.Native.Nat.{ℕ, zero, suc, _+_, _-_, _≤_, _<_}
 use native.Mathlib.Omega.{arith}
-use mathlib.Core.Bool.{Bool, true, false, not, true≢false}
+use mathlib.Core.Bool.{Bool, true, false, true≢false}
 use mathlib.Core.List.{List, [], _∷_, _++_, append-nil, map}
 use lib.ListN.{length, set, length-set, length-append, length-map}
-use borrow.Author.Needs.{scaled-fits}
 use borrow.Author.Tests.{le-leb, lt-leb}
-use mir.Val.{Fits}
-use mir.Syntax.{w64}
 use Rattle.base.specs.Lists.{any}
-use Rattle.base.specs.Rows.{isRow}
 use Rattle.sensor.specs.Single.{runs}
 use Rattle.band.specs.Rows.{resetRow}
 use Rattle.band.specs.Parts.{isLockable}
@@ -21,15 +17,17 @@ use Rattle.drive.specs.State.{Freshens, settleOf}
 use Rattle.drive.specs.Events.{Event, eventOf, answerOf, stopsOf, stepOf, runOf, along, answersOf, stopsIn, over}
 use Rattle.elapse.specs.declared.Elapsed.{Elapsed}
 use Rattle.elapse.specs.Jumps.{Elapses}
-use Rattle.base.proofs.Rows.{row-place}
 use Rattle.script.specs.declared.EventRead.{EventRead}
 use Rattle.script.specs.declared.EventRead.the-variants as R
 use Rattle.script.specs.Fields.{Parsed, event, broken, parsedIn, tokensAt, eventAt}
+use Rattle.in_place.specs.declared.Change.{Change}
 use Rattle.in_place.specs.FirstEvents.{thenMore, firstEvents, after, eventsRun, freshOf, firstEventsRun}
+use Rattle.in_place.specs.Changes.{changeOf}
 use Rattle.in_place.specs.Parts.{SettledSixteen}
 use Rattle.base.proofs.Lists.{few-counted}
 use Rattle.in_place.proofs.Sixteen.{step-kept}
 use Rattle.in_place.proofs.Storing.{EventRan, EventStored, finishOf}
+use Rattle.in_place.proofs.Changing.{Says, says-as}
 
 -- ---- the lists
 
@@ -139,11 +137,15 @@ pub next : {s : List ℕ} {start count : ℕ} {fresh : Drive} {answers₀ stops�
     → Next s start count fresh answers₀ stops₀ d answers stops at i o k b c n
 next {s = s} g h p w e = record { sofar = g; some = h; long = p .0; wide = p .1; here = sym w ∙ ap (parsedIn s) e }
 
--- the event stored, by the names that the values have where the ways meet
-pub stored-as : {s : List ℕ} {start count : ℕ} {fresh : Drive} {answers₀ stops₀ : List ℕ} {d : Drive} {answers stops : List ℕ} {at i : ℕ} {o : Bool} {k l : Kind} {b c n : ℕ} {a a' z z' : ℕ} {y y' : Drive}
-    {u u' due due' : Bool} {t t' : ℕ} → Next s start count fresh answers₀ stops₀ d answers stops at i o k b c n → k ≡ l → EventStored d (eventOf l (tokensAt s b c)) a z y u due t → y' ≡ y → u' ≡ u → a' ≡ a → z' ≡ z
-    → due' ≡ due → t' ≡ t → EventStored d (eventOf k (tokensAt s b c)) a' z' y' u' due' t'
-stored-as g ek h ey eo ea ez ed et = rw (ek, ey, eo, ea, ez, ed, et) h
+-- what its change says of it
+pub next-says : {s : List ℕ} {start count : ℕ} {fresh : Drive} {answers₀ stops₀ : List ℕ} {d : Drive} {answers stops : List ℕ} {at i : ℕ} {o : Bool} {k : Kind} {b c n : ℕ} {t u : Change}
+    → Next s start count fresh answers₀ stops₀ d answers stops at i o k b c n → t ≡ changeOf (d .«sensor_count») (d .«band_count») k → t ≡ u → Says d (tokensAt s b c) (eventOf k (tokensAt s b c)) u
+next-says {s = s} {d = d} {k = k} {b = b} {c = c} {t = t} {u = u} g p q = says-as d (g .sofar .kept) (tokensAt s b c) k t u p q
+
+-- the event stored, by the names that it and the values have where the ways meet
+pub stored-as : {d : Drive} {e e' : Event} {a a' z z' : ℕ} {y y' : Drive} {u u' due due' : Bool} {t t' : ℕ} → e' ≡ e → EventStored d e a z y u due t → y' ≡ y → u' ≡ u → a' ≡ a → z' ≡ z
+    → due' ≡ due → t' ≡ t → EventStored d e' a' z' y' u' due' t'
+stored-as ee h ey eo ea ez ed et = rw (ee, ey, eo, ea, ez, ed, et) h
 
 -- it has sixteen rows
 pub stored-long : {d : Drive} {e : Event} {a z : ℕ} {y : Drive} {o due : Bool} {t : ℕ} → SettledSixteen d → EventStored d e a z y o due t → length (y .rows) ≡ 16
@@ -193,11 +195,6 @@ run-again {s = s} {count = count} {fresh = fresh} {answers₀ = answers₀} {sto
 -- "at most the number of timers running at its start", and a drive has sixteen
 pub elapse-fits : (d : Drive) (n : ℕ) (r : Elapsed) → Elapses n d r → r .stops ≤ length (d .sensors)
 elapse-fits d n r p = omega (arith, p .few, few-counted runs (d .sensors))
-
--- ---- the place of a row that is there, in bytes
-
-pub row-scaled : (n i k : ℕ) (t : Bool) → t ≡ not (isRow n i) → t ≡ false → 16 * k < 2 ^ 63 → Fits w64 (i * k)
-row-scaled n i k t p e h = scaled-fits i 16 k (row-place n i t p e) h
 
 -- ---- from the fresh drive, whatever the buffers
 

@@ -7,7 +7,7 @@ use mathlib.Core.List.{List, [], _∷_, map}
 use mathlib.Core.Logic.{_≢_}
 use lib.Dec.{eqb, ltb}
 use lib.ListN.{length, getD, set}
-use borrow.Author.Tests.{le-ltb, ltb-false, ltb-true, eq-eqb, ne-eqb}
+use borrow.Author.Tests.{le-ltb, ltb-false, ltb-true, eqb-true, ne-eqb}
 use Rattle.base.specs.Lists.{oneIf, any}
 use Rattle.base.specs.Rows.{isRow, modify}
 use Rattle.base.specs.Ticks.{ticks}
@@ -15,18 +15,12 @@ use Rattle.base.specs.Ticks.{stops as stopsIn}
 use Rattle.base.proofs.Cases.{cond-true, cond-false, neither}
 use Rattle.base.proofs.Lists.{set-same}
 use Rattle.base.proofs.Jumps.{ticks-keep, quiet-ticks, quiet-stops}
-use Rattle.base.proofs.Rows.{row-place, modify-set, getD-any}
-use Rattle.answer.specs.declared.Answer.{Answer}
-use Rattle.answer.specs.declared.Answer.the-variants.{NoRow, OutOfRange}
+use Rattle.base.proofs.Rows.{row-is, modify-set, getD-any}
 use Rattle.answer.specs.Numbers.{numberOf}
 use Rattle.sensor.specs.declared.single.Sensor.{Sensor}
-use Rattle.sensor.specs.declared.columns.SensorColumns.{SensorColumns}
-use Rattle.sensor.specs.Level.{greatestReading}
-use Rattle.sensor.specs.Single.{readingAnswer, readingOf, judgeOf, turnedTo, powerCycleOf, endsNext}
+use Rattle.sensor.specs.Single.{powerCycleOf, endsNext}
 use Rattle.sensor.specs.Parts.{loweredBy}
 use Rattle.sensor.specs.Single.{sensorTick}
-use Rattle.sensor.specs.Columns.{setAnswer, setOf, storedOf, switchedOf}
-use Rattle.sensor.specs.Columns.{columnsFit as sensorColumnsFit}
 use Rattle.sensors.specs.Sixteen.{conditionsBelow}
 use Rattle.sensors.specs.Parts.{quietTicks}
 use Rattle.sensors.proofs.Quiet.{AllQuiet, quietTicks-le, quietTicks-quiet, sensors-jump}
@@ -41,10 +35,9 @@ use Rattle.geometry.specs.declared.Span.{Span}
 use Rattle.geometry.specs.declared.Placed.{Placed}
 use Rattle.geometry.specs.Events.{placed, placeAnswer, placeOf, transferAnswer, Places}
 use Rattle.drive.specs.declared.Drive.{Drive}
-use Rattle.drive.specs.declared.Reply.{Reply}
 use Rattle.drive.specs.State.{withRows, withSpans, withSensors, conditionsOf, settleOf, tickOf, stopNext}
-use Rattle.drive.specs.Events.{Event, reading, elapse, reset, sensorSet, bandSet, geometry, transfer}
-use Rattle.drive.specs.Events.{answerOf, actOf, stepOf, elapsedStops, stopsOf, sideOf, formedFrom, Replies}
+use Rattle.drive.specs.Events.{Event, elapse, reset, bandSet, geometry, transfer}
+use Rattle.drive.specs.Events.{answerOf, actOf, stepOf, elapsedStops, stopsOf, sideOf, formedFrom}
 use Rattle.drive.proofs.Answers as A
 use Rattle.drive.proofs.Settling.{settle-with, tick-settled}
 use Rattle.elapse.specs.declared.Elapsed.{Elapsed}
@@ -56,6 +49,7 @@ use Rattle.row_set.specs.Forming.{rowAnswer, SetsRow}
 use Rattle.in_place.specs.declared.SensorAfter.{SensorAfter}
 use Rattle.in_place.specs.declared.RowAfter.{RowAfter}
 use Rattle.in_place.specs.declared.SensorsAfter.{SensorsAfter}
+use Rattle.in_place.specs.Changes.{noReset}
 use Rattle.in_place.specs.Parts.{SettledSixteen, LeavesSensor, LeavesRow, byStops, LeavesSensors}
 use Rattle.in_place.proofs.Sixteen.{step-kept}
 
@@ -104,14 +98,14 @@ pub record EventStored (d : Drive) (e : Event) (a z : ℕ) (y : Drive) (mayBeLoc
   pub flag : mayBeLockable ≡ false → any isLockable (y .rows) ≡ false
 
 -- an event whose drive is settled already
-whole-half : (d : Drive) (e : Event) (a z : ℕ) (y : Drive) (o due : Bool) (t : ℕ) → SettledSixteen d → 2 < t → EventRan d e a z y → (o ≡ false → any isLockable (y .rows) ≡ false) → EventStored d e a z y o due t
-whole-half d e a z y o due t k h r f =
+settled-stored : (d : Drive) (e : Event) (a z : ℕ) (y : Drive) (o due : Bool) (t : ℕ) → SettledSixteen d → 2 < t → EventRan d e a z y → (o ≡ false → any isLockable (y .rows) ≡ false) → EventStored d e a z y o due t
+settled-stored d e a z y o due t k h r f =
     let w : finishOf t y ≡ y = finish-none t y h ∙ ap settleOf (r .drive) ∙ step-kept d e k .settled ∙ sym (r .drive) in
     record { answer = r .answer; stops = r .stops; whole = w ∙ r .drive; calm = λ _. w; flag = f }
 
 -- nothing is to lock
-pub half-idle : {d : Drive} {e : Event} {a z : ℕ} {y : Drive} {o due u : Bool} {t : ℕ} → EventStored d e a z y o due t → u ≡ (o && due) → u ≡ false → EventRan d e a z y
-half-idle {y = y} {o = o} {due = due} {t = t} h p q = record { answer = h .answer; stops = h .stops; drive = sym (go o due refl refl (sym p ∙ q)) ∙ h .whole }
+pub stored-idle : {d : Drive} {e : Event} {a z : ℕ} {y : Drive} {o due u : Bool} {t : ℕ} → EventStored d e a z y o due t → u ≡ (o && due) → u ≡ false → EventRan d e a z y
+stored-idle {y = y} {o = o} {due = due} {t = t} h p q = record { answer = h .answer; stops = h .stops; drive = sym (go o due refl refl (sym p ∙ q)) ∙ h .whole }
   where
     go : (x w : Bool) → o ≡ x → due ≡ w → (x && w) ≡ false → finishOf t y ≡ y
     go false w eo ed z = finish-steady t y (h .flag eo)
@@ -157,71 +151,63 @@ unturned true false e = absurd (true≢false e)
 unturned false true e = absurd (true≢false e)
 unturned false false e = refl
 
--- ---- a sensor's events
+-- ---- an event on one sensor
 
-module _ (d : Drive) (k : SettledSixteen d) (s : ℕ) (t : Bool) (p : t ≡ not (isRow (d .«sensor_count») s)) (e : t ≡ false) (y : Sensor) where
-  within : s < length (d .sensors)
-  within = omega (arith, k .sensors, row-place (d .«sensor_count») s t p e)
+-- an event on the sensor at j, with its answer n and its rule f
+pub record OnSensor (d : Drive) (e : Event) (j n : ℕ) (f : Sensor → Sensor) : Type 0 where
+  pub there : j < 16
+  pub answer : n ≡ answerOf d e
+  pub stops : elapsedStops d e ≡ 0
+  pub act : withSensors (modify f j (d .sensors)) d ≡ actOf d e
+  pub stays : (one : Sensor) → eqb n 0 ≡ false → f one ≡ one
 
-  -- an event that makes f of the sensor, and n its answer
-  module _ (ev : Event) (f : Sensor → Sensor) (n : ℕ) (ea : n ≡ answerOf d ev) (ez : elapsedStops d ev ≡ 0) (eact : withSensors (modify f s (d .sensors)) d ≡ actOf d ev)
-      (stays : eqb n 0 ≡ false → f (getD (d .sensors) s y) ≡ getD (d .sensors) s y) (m : SensorAfter) (h : LeavesSensor n (f (getD (d .sensors) s y)) (getD (d .sensors) s y) m) where
-    held : Drive
-    held = withSensors (set (d .sensors) s (m .sensor)) d
+module _ (d : Drive) (k : SettledSixteen d) (e : Event) (j n : ℕ) (f : Sensor → Sensor) (p : OnSensor d e j n f) (y : Sensor) (m : SensorAfter)
+    (h : LeavesSensor n (f (getD (d .sensors) j y)) (getD (d .sensors) j y) m) where
+  within : j < length (d .sensors)
+  within = omega (arith, k .sensors, p .there)
 
-    sensor-half : (o : Bool) (w : ℕ) → 2 < w → (o ≡ false → any isLockable (d .rows) ≡ false) → EventStored d ev (m .number) 0 held o (m .turned) w
-    unfolding held
-    sensor-half o w g fl = record {
-      answer = h .number-is ∙ ea;
-      stops = r .stops;
-      whole = finish-none w held g ∙ r .drive;
-      calm = λ q. finish-none w held g ∙ settle-with d (set (d .sensors) s (m .sensor))
-          (same-conditions (d .«sensor_count») (d .sensors) s y (m .sensor) within
-          (ap (λ (v : Sensor). v .condition) (h .sensor-is) ∙ unturned (getD (d .sensors) s y .condition) _ (sym (h .turned-is) ∙ q)))
-          ∙ ap (λ (x : Drive). withSensors (set (d .sensors) s (m .sensor)) x) (k .settled);
-      flag = fl;
-    }
-      where
-        r : EventRan d ev n 0 (settleOf held)
-        r = stored d ev n (settleOf held) held (k .settled) ea ez
-            (λ _. ap (λ (l : List Sensor). withSensors l d) (modify-set f (d .sensors) s y (m .sensor) (h .sensor-is) within) ∙ eact)
-            (λ q. ap (λ (v : Sensor). withSensors (set (d .sensors) s v) d) (h .sensor-is ∙ stays q) ∙ ap (λ (l : List Sensor). withSensors l d) (set-same (d .sensors) s y))
-            refl
+  held : Drive
+  held = withSensors (set (d .sensors) j (m .sensor)) d
 
-  pub reading-half : (v : ℕ) (m : SensorAfter) (o : Bool) (w : ℕ) → LeavesSensor (readingAnswer v) (readingOf v (getD (d .sensors) s y)) (getD (d .sensors) s y) m → 2 < w → (o ≡ false → any isLockable (d .rows) ≡ false)
-      → EventStored d (reading s v) (m .number) 0 (withSensors (set (d .sensors) s (m .sensor)) d) o (m .turned) w
-  unfolding held actOf readingOf
-  reading-half v m o w h =
-      sensor-half (reading s v) (readingOf v) (readingAnswer v)
-      (A.reading-answered d s t p v e) refl refl
-      (go (ltb greatestReading v) (getD (d .sensors) s y) (turnedTo (judgeOf v (getD (d .sensors) s y)) (getD (d .sensors) s y))) m h o w
+  pub sensor-stored : (o : Bool) (w : ℕ) → 2 < w → (o ≡ false → any isLockable (d .rows) ≡ false) → EventStored d e (m .number) 0 (withSensors (set (d .sensors) j (m .sensor)) d) o (m .turned) w
+  unfolding held
+  sensor-stored o w g fl = record {
+    answer = h .number-is ∙ p .answer;
+    stops = r .stops;
+    whole = finish-none w held g ∙ r .drive;
+    calm = λ q. finish-none w held g ∙ settle-with d (set (d .sensors) j (m .sensor))
+        (same-conditions (d .«sensor_count») (d .sensors) j y (m .sensor) within
+        (ap (λ (v : Sensor). v .condition) (h .sensor-is) ∙ unturned (getD (d .sensors) j y .condition) _ (sym (h .turned-is) ∙ q)))
+        ∙ ap (λ (x : Drive). withSensors (set (d .sensors) j (m .sensor)) x) (k .settled);
+    flag = fl;
+  }
     where
-      go : (b : Bool) (x z : Sensor) → eqb (cond b 2 0) 0 ≡ false → cond b x z ≡ x
-      go true x z q = refl
-      go false x z q = absurd (true≢false q)
+      r : EventRan d e n 0 (settleOf held)
+      r = stored d e n (settleOf held) held (k .settled) (p .answer) (p .stops)
+          (λ _. ap (λ (l : List Sensor). withSensors l d) (modify-set f (d .sensors) j y (m .sensor) (h .sensor-is) within) ∙ p .act)
+          (λ q. ap (λ (v : Sensor). withSensors (set (d .sensors) j v) d) (h .sensor-is ∙ p .stays (getD (d .sensors) j y) q) ∙ ap (λ (l : List Sensor). withSensors l d) (set-same (d .sensors) j y))
+          refl
 
-  pub set-half : (c : SensorColumns) (m : SensorAfter) (o : Bool) (w : ℕ) → LeavesSensor (setAnswer c) (setOf c (getD (d .sensors) s y)) (getD (d .sensors) s y) m → 2 < w → (o ≡ false → any isLockable (d .rows) ≡ false)
-      → EventStored d (sensorSet s c) (m .number) 0 (withSensors (set (d .sensors) s (m .sensor)) d) o (m .turned) w
-  unfolding held actOf setOf
-  set-half c m o w h =
-      sensor-half (sensorSet s c) (setOf c) (setAnswer c)
-      (A.set-answered d s t p c e) refl refl
-      (go (sensorColumnsFit c) (getD (d .sensors) s y) (switchedOf c (storedOf c (getD (d .sensors) s y)))) m h o w
-    where
-      go : (b : Bool) (x z : Sensor) → eqb (cond (not b) 2 0) 0 ≡ false → cond b z x ≡ x
-      go false x z q = refl
-      go true x z q = absurd (true≢false q)
+-- ---- an event that stores nothing
 
--- a row that is not there
-module _ (d : Drive) (k : SettledSixteen d) (o due : Bool) (w : ℕ) (g : 2 < w) (fl : o ≡ false → any isLockable (d .rows) ≡ false) (t : Bool) where
-  pub reading-absent : (s v : ℕ) → t ≡ not (isRow (d .«sensor_count») s) → t ≡ true → EventStored d (reading s v) 1 0 d o due w
-  reading-absent s v p e = whole-half d (reading s v) 1 0 d o due w k g (refusal d (reading s v) 1 (A.no-sensor-reading d s t p v e) refl) fl
+-- it has the answer n; what it makes of the drive is what a reset of type t and settling make of it
+pub record OnNothing (d : Drive) (e : Event) (n t : ℕ) : Type 0 where
+  pub answer : n ≡ answerOf d e
+  pub stops : 0 ≡ stopsOf d e
+  pub whole : finishOf t d ≡ stepOf d e
 
-  pub set-absent : (s : ℕ) (c : SensorColumns) → t ≡ not (isRow (d .«sensor_count») s) → t ≡ true → EventStored d (sensorSet s c) 1 0 d o due w
-  set-absent s c p e = whole-half d (sensorSet s c) 1 0 d o due w k g (refusal d (sensorSet s c) 1 (A.no-sensor-set d s t p c e) refl) fl
+pub nothing-stored : (d : Drive) (k : SettledSixteen d) (e : Event) (n t : ℕ) → OnNothing d e n t → (o due : Bool) → (o ≡ false → any isLockable (d .rows) ≡ false) → due ≡ not (eqb t noReset) → EventStored d e n 0 d o due t
+nothing-stored d k e n t p o due fl ed = record { answer = p .answer; stops = p .stops; whole = p .whole; calm = λ q. go (eqb t noReset) refl (sym ed ∙ q); flag = fl }
+  where
+    go : (b : Bool) → eqb t noReset ≡ b → not b ≡ false → finishOf t d ≡ d
+    go true e q = finish-none t d (let h = eqb-true t noReset e in omega (arith, h)) ∙ k .settled
+    go false e q = absurd (true≢false q)
 
-  pub band-absent : (b : ℕ) (c : BandColumns) (bytes : List ℕ) → t ≡ not (isRow (d .«band_count») b) → t ≡ true → EventStored d (bandSet b c bytes) 1 0 d o due w
-  band-absent b c bytes p e = whole-half d (bandSet b c bytes) 1 0 d o due w k g (refusal d (bandSet b c bytes) 1 (A.no-band d b c bytes t p e) refl) fl
+-- a refusal for a row that is not there
+pub on-absent : (d : Drive) (e : Event) → SettledSixteen d → 1 ≡ answerOf d e → OnNothing d e 1 noReset
+on-absent d e k p =
+    let r = refusal d e 1 p refl in
+    record { answer = r .answer; stops = r .stops; whole = finish-none noReset d (omega arith) ∙ k .settled ∙ r .drive }
 
 -- ---- elapse
 
@@ -254,11 +240,11 @@ pub stops-short : (o : Bool) (n : ℕ) (l : List Sensor) (t : Bool) → t ≡ by
 stops-short o n l t p e = stops-told o n l (sym p ∙ e) .1
 
 -- from stop to stop, with the bands settled at each
-pub elapse-half : (d : Drive) (k : SettledSixteen d) (n z : ℕ) (r : Elapsed) (o t : Bool) (w : ℕ) → 2 < w → t ≡ byStops o n (d .sensors) → t ≡ true → Elapses n d r → z ≡ r .stops
+pub stops-stored : (d : Drive) (k : SettledSixteen d) (n z : ℕ) (r : Elapsed) (o t : Bool) (w : ℕ) → 2 < w → t ≡ byStops o n (d .sensors) → t ≡ true → Elapses n d r → z ≡ r .stops
     → EventStored d (elapse n) 0 z (r .drive) o true w
-elapse-half d k n z r o t w g p e h ez =
+stops-stored d k n z r o t w g p e h ez =
     let q = stops-told o n (d .sensors) (sym p ∙ e) in
-    whole-half d (elapse n) 0 z (r .drive) o true w k g (elapsed d n z (r .drive) (k .settled) (q .1) (ez ∙ h .stops) (h .drive)) (λ f. absurd (true≢false (sym (q .0) ∙ f)))
+    settled-stored d (elapse n) 0 z (r .drive) o true w k g (elapsed d n z (r .drive) (k .settled) (q .1) (ez ∙ h .stops) (h .drive)) (λ f. absurd (true≢false (sym (q .0) ∙ f)))
 
 -- no row is open: the sensors alone pass
 module _ (d : Drive) (o : any isLockable (d .rows) ≡ false) where
@@ -279,13 +265,13 @@ module _ (d : Drive) (o : any isLockable (d .rows) ≡ false) where
       (ap (λ (x : Drive). stopsIn tickOf stopNext n x) (steady-tick l) ∙ steady-stops n (map sensorTick l))
 
 -- the sensors alone: no row is open, or no timer ends
-pub pass-half : (d : Drive) (k : SettledSixteen d) (n : ℕ) (r : SensorsAfter) (o t due : Bool) (w : ℕ) → 2 < w → (o ≡ false → any isLockable (d .rows) ≡ false) → t ≡ byStops o n (d .sensors) → t ≡ false → LeavesSensors n (d .sensors) r
+pub pass-stored : (d : Drive) (k : SettledSixteen d) (n : ℕ) (r : SensorsAfter) (o t due : Bool) (w : ℕ) → 2 < w → (o ≡ false → any isLockable (d .rows) ≡ false) → t ≡ byStops o n (d .sensors) → t ≡ false → LeavesSensors n (d .sensors) r
     → EventStored d (elapse n) (r .number) (r .stops) (withSensors (r .sensors) d) o due w
 unfolding byStops jumpOf
-pass-half d k n r o t due w g fl p e h = go o (ltb 4294967295 n) refl refl
+pass-stored d k n r o t due w g fl p e h = go o (ltb 4294967295 n) refl refl
   where
     from : (y : Drive) → EventRan d (elapse n) (r .number) (r .stops) y → y ≡ withSensors (r .sensors) d → EventStored d (elapse n) (r .number) (r .stops) (withSensors (r .sensors) d) o due w
-    from y v q = whole-half d (elapse n) (r .number) (r .stops) (withSensors (r .sensors) d) o due w k g (rw (← q) v) fl
+    from y v q = settled-stored d (elapse n) (r .number) (r .stops) (withSensors (r .sensors) d) o due w k g (rw (← q) v) fl
 
     number-in : (b : Bool) → ltb 4294967295 n ≡ b → r .number ≡ cond b 2 0
     number-in b q = h .number-is ∙ ap (λ (x : Bool). cond x 2 0) q
@@ -325,10 +311,10 @@ pass-half d k n r o t due w g fl p e h = go o (ltb 4294967295 n) refl refl
 
 -- ---- reset
 
-reset-half : (d : Drive) (k : SettledSixteen d) (t : ℕ) (l : List Sensor) (a : ℕ) (o : Bool) → (o ≡ false → any isLockable (d .rows) ≡ false) → a ≡ cond (ltb 2 t) 2 0
+reset-stored : (d : Drive) (k : SettledSixteen d) (t : ℕ) (l : List Sensor) (a : ℕ) (o : Bool) → (o ≡ false → any isLockable (d .rows) ≡ false) → a ≡ cond (ltb 2 t) 2 0
     → l ≡ cond (eqb t 0) (map powerCycleOf (d .sensors)) (d .sensors) → EventStored d (reset t) a 0 (withSensors l d) o true t
 unfolding finishOf actOf answerOf
-reset-half d k t l a o fl ea el = go (ltb 2 t) refl
+reset-stored d k t l a o fl ea el = go (ltb 2 t) refl
   where
     go : (b : Bool) → ltb 2 t ≡ b → EventStored d (reset t) a 0 (withSensors l d) o true t
     go false q =
@@ -352,12 +338,14 @@ reset-half d k t l a o fl ea el = go (ltb 2 t) refl
           flag = fl;
         }
 
-pub reset-cycle : (d : Drive) (k : SettledSixteen d) (t : ℕ) (l : List Sensor) (a : ℕ) (o : Bool) → (o ≡ false → any isLockable (d .rows) ≡ false) → a ≡ cond (ltb 2 t) 2 0 → t ≡ 0 → l ≡ map powerCycleOf (d .sensors)
-    → EventStored d (reset t) a 0 (withSensors l d) o true t
-reset-cycle d k t l a o fl ea z el = reset-half d k t l a o fl ea (cond-true (eqb t 0) _ _ _ (eq-eqb t 0 z) el)
+pub cycle-stored : (d : Drive) (k : SettledSixteen d) (l : List Sensor) (o : Bool) → (o ≡ false → any isLockable (d .rows) ≡ false) → l ≡ map powerCycleOf (d .sensors)
+    → EventStored d (reset 0) 0 0 (withSensors l d) o true 0
+cycle-stored d k l o fl el = reset-stored d k 0 l 0 o fl refl el
 
-pub reset-other : (d : Drive) (k : SettledSixteen d) (t : ℕ) (a : ℕ) (o : Bool) → (o ≡ false → any isLockable (d .rows) ≡ false) → a ≡ cond (ltb 2 t) 2 0 → t ≢ 0 → EventStored d (reset t) a 0 d o true t
-reset-other d k t a o fl ea z = reset-half d k t (d .sensors) a o fl ea (cond-false (eqb t 0) _ _ _ (ne-eqb t 0 z) refl)
+pub on-reset : (d : Drive) (k : SettledSixteen d) (t : ℕ) → eqb t 0 ≡ false → OnNothing d (reset t) (cond (ltb 2 t) 2 0) t
+on-reset d k t z =
+    let h = reset-stored d k t (d .sensors) (cond (ltb 2 t) 2 0) true (λ q. absurd (true≢false q)) refl (cond-false (eqb t 0) _ _ _ z refl) in
+    record { answer = h .answer; stops = h .stops; whole = h .whole }
 
 -- ---- band Set
 
@@ -370,9 +358,9 @@ settled-rows : (d : Drive) → settleOf d ≡ d → map (settleRow (conditionsOf
 unfolding settleOf
 settled-rows d s = ap (λ (x : Drive). x .rows) s
 
-module _ (d : Drive) (k : SettledSixteen d) (b : ℕ) (c : BandColumns) (bytes : List ℕ) (t : Bool) (p : t ≡ not (isRow (d .«band_count») b)) (e : t ≡ false) (y : Row) (cs : List Bool) (ec : cs ≡ conditionsBelow (d .«sensor_count») (d .sensors)) (r : RowAnswer) (h : SetsRow cs c bytes (getD (d .rows) b y) r) where
+module _ (d : Drive) (k : SettledSixteen d) (b : ℕ) (c : BandColumns) (bytes : List ℕ) (p : isRow (d .«band_count») b ≡ true) (y : Row) (cs : List Bool) (ec : cs ≡ conditionsBelow (d .«sensor_count») (d .sensors)) (r : RowAnswer) (h : SetsRow cs c bytes (getD (d .rows) b y) r) where
   inside : b < length (d .rows)
-  inside = omega (arith, k .rows, row-place (d .«band_count») b t p e)
+  inside = omega (arith, k .rows, row-is (d .«band_count») b p .1)
 
   conditions-are : cs ≡ conditionsOf d
   unfolding conditionsOf
@@ -381,7 +369,8 @@ module _ (d : Drive) (k : SettledSixteen d) (b : ℕ) (c : BandColumns) (bytes :
   row-answered : rowAnswer cs c bytes (getD (d .rows) b y) ≡ answerOf d (bandSet b c bytes)
   unfolding rowAnswer
   row-answered =
-      ap₂ (λ (x : List Bool) (z : Row). rowAnswer x c bytes z) conditions-are (getD-any (d .rows) b y freshRow inside) ∙ A.band-answered d b c bytes t p e
+      ap₂ (λ (x : List Bool) (z : Row). rowAnswer x c bytes z) conditions-are (getD-any (d .rows) b y freshRow inside)
+      ∙ A.band-answered d b c bytes false (sym (ap not p)) refl
 
   -- what is stored, before the bands settle: where the Set is refused, the row that was there
   unsettled : Drive
@@ -426,12 +415,12 @@ set-steady (row ∷ rows) (suc i) v e f =
     ap₂ (λ (a b : Bool). a || b) (h .0) (set-steady rows i v (h .1) f)
 
 -- with the flag: it is set where the new row is open
-pub band-half : (d : Drive) (k : SettledSixteen d) (b : ℕ) (c : BandColumns) (bytes : List ℕ) (t : Bool) (y : Row) (cs : List Bool) (m : RowAfter) (o o' due : Bool) (w : ℕ)
-    → 2 < w → (o ≡ false → any isLockable (d .rows) ≡ false) → t ≡ not (isRow (d .«band_count») b) → t ≡ false → cs ≡ conditionsBelow (d .«sensor_count») (d .sensors)
+pub row-stored : (d : Drive) (k : SettledSixteen d) (b : ℕ) (c : BandColumns) (bytes : List ℕ) (y : Row) (cs : List Bool) (m : RowAfter) (o o' due : Bool) (w : ℕ)
+    → 2 < w → (o ≡ false → any isLockable (d .rows) ≡ false) → isRow (d .«band_count») b ≡ true → cs ≡ conditionsBelow (d .«sensor_count») (d .sensors)
     → LeavesRow cs c bytes (getD (d .rows) b y) m → o' ≡ (o || m .lockable) → EventStored d (bandSet b c bytes) (m .number) 0 (withRows (set (d .rows) b (m .row)) d) o' due w
-band-half d k b c bytes t y cs m o o' due w g fl p e ec h eo =
-    whole-half d (bandSet b c bytes) (m .number) 0 (withRows (set (d .rows) b (m .row)) d) o' due w k g
-    (band-ran d k b c bytes t p e y cs ec (h .reply) (h .sets) (m .number) (m .row) _ (h .number-is) (h .row-is) refl)
+row-stored d k b c bytes y cs m o o' due w g fl p ec h eo =
+    settled-stored d (bandSet b c bytes) (m .number) 0 (withRows (set (d .rows) b (m .row)) d) o' due w k g
+    (band-ran d k b c bytes p y cs ec (h .reply) (h .sets) (m .number) (m .row) _ (h .number-is) (h .row-is) refl)
     (λ z. let q = neither o (m .lockable) (sym eo ∙ z) in set-steady (d .rows) b (m .row) (fl (q .0)) (sym (h .lockable-is) ∙ q .1))
 
 -- ---- geometry and transfer
@@ -440,11 +429,11 @@ spans-settle : (d : Drive) (l : List Span) → settleOf d ≡ d → settleOf (wi
 unfolding settleOf conditionsOf
 spans-settle d l s = ap (λ (x : Drive). withSpans l x) s
 
-pub geometry-half : (d : Drive) (k : SettledSixteen d) (b start n : ℕ) (r : Placed) (a : ℕ) (o due : Bool) (w : ℕ) → 2 < w → (o ≡ false → any isLockable (d .rows) ≡ false)
+pub spans-stored : (d : Drive) (k : SettledSixteen d) (b start n : ℕ) (r : Placed) (a : ℕ) (o due : Bool) (w : ℕ) → 2 < w → (o ≡ false → any isLockable (d .rows) ≡ false)
     → Places (d .capacity) (d .«band_count») (d .spans) b start n r → a ≡ numberOf (r .answer) → EventStored d (geometry b start n) a 0 (withSpans (r .spans) d) o due w
 unfolding placeOf actOf
-geometry-half d k b start n r a o due w g fl h ea =
-    whole-half d (geometry b start n) a 0 (withSpans (r .spans) d) o due w k g
+spans-stored d k b start n r a o due w g fl h ea =
+    settled-stored d (geometry b start n) a 0 (withSpans (r .spans) d) o due w k g
     (stored d (geometry b start n) a (withSpans (r .spans) d) (withSpans (r .spans) d) (k .settled) (ea ∙ h .answer ∙ A.geometry-answered d b start n) refl
     (λ z. ap (λ (l : List Span). withSpans l d) (h .after ∙ ap (λ (x : Bool). cond x (placed (d .spans) b start n) (d .spans)) (alike true z)))
     (λ z. ap (λ (l : List Span). withSpans l d) (h .after ∙ ap (λ (x : Bool). cond x (placed (d .spans) b start n) (d .spans)) (alike false z)))
@@ -454,12 +443,10 @@ geometry-half d k b start n r a o due w g fl h ea =
     alike : (x : Bool) → eqb a 0 ≡ x → eqb (placeAnswer (d .capacity) (d .«band_count») (d .spans) b start n) 0 ≡ x
     alike x z = ap (λ (m : ℕ). eqb m 0) (sym (h .answer) ∙ sym ea) ∙ z
 
-pub transfer-half : (d : Drive) (k : SettledSixteen d) (v start n : ℕ) (side : Side) (closed : List Bool) (a : ℕ) (o due : Bool) (w : ℕ) → 2 < w → (o ≡ false → any isLockable (d .rows) ≡ false) → side ≡ sideOf v
-    → closed ≡ map (closedOn side) (d .rows) → a ≡ cond (ltb 1 v) 2 (transferAnswer (d .capacity) (d .«band_count») (d .spans) closed start n) → EventStored d (transfer v start n) a 0 d o due w
+pub transfer-stored : (d : Drive) (k : SettledSixteen d) (v start n : ℕ) (a : ℕ) (o due : Bool) (w : ℕ) → 2 < w → (o ≡ false → any isLockable (d .rows) ≡ false)
+    → a ≡ cond (ltb 1 v) 2 (transferAnswer (d .capacity) (d .«band_count») (d .spans) (map (closedOn (sideOf v)) (d .rows)) start n) → EventStored d (transfer v start n) a 0 d o due w
 unfolding actOf answerOf transferAnswer
-transfer-half d k v start n side closed a o due w g fl es ec ea =
-    whole-half d (transfer v start n) a 0 d o due w k g
-    (stored d (transfer v start n) a d d (k .settled)
-    (ea ∙ ap (λ (l : List Bool). cond (ltb 1 v) 2 (transferAnswer (d .capacity) (d .«band_count») (d .spans) l start n)) (ec ∙ ap (λ (z : Side). map (closedOn z) (d .rows)) es))
-    refl (λ z. refl) (λ z. refl) (sym (k .settled)))
+transfer-stored d k v start n a o due w g fl ea =
+    settled-stored d (transfer v start n) a 0 d o due w k g
+    (stored d (transfer v start n) a d d (k .settled) ea refl (λ z. refl) (λ z. refl) (sym (k .settled)))
     fl

@@ -1,2 +1,3 @@
 pub mod FirstEvents
+pub mod Changes
 pub mod Parts

@@ -1,16 +1,19 @@
-// The events of a script, one after the other, on a drive that this function owns: an event stores one sensor, one row, the spans or the
-// sensors, and then the rows that are open may lock. The drive goes by value only where a timer ends while a row is open.
+// The events of a script, one after the other, on a drive that this crate owns: an event stores one sensor, one row, the spans or the
+// sensors, and then the rows that are lockable (a side enabled and not locked) may lock. The drive goes by value only where a timer ends while
+// a row may be lockable.
 ghost use mathlib.Core.Bool.{not, cond, _&&_, _||_, Bool·beq};
+ghost use mathlib.Core.List.{map};
 ghost use mathlib.Core.Path.{_≡_};
 ghost use Prim.Native.Nat.{_≤_};
-ghost use lib.Dec.{ltb};
+ghost use lib.Dec.{eqb, ltb};
 ghost use lib.ListN.{length};
-ghost use Rattle.answer.specs.Numbers.{numberOf};
-ghost use Rattle.sensor.specs.Single.{readingAnswer, readingOf};
-ghost use Rattle.sensor.specs.Columns.{setAnswer, setOf};
+ghost use Rattle.sensor.specs.Columns.{sensorAnswer, sensorAfter};
+ghost use Rattle.band.specs.Rows.{closedOn, lastResetType};
 ghost use Rattle.geometry.specs.Events.{transferAnswer};
+ghost use Rattle.drive.specs.Events.{sideOf};
 ghost use Rattle.script.specs.Fields.{tokensAt};
 ghost use Rattle.in_place.specs.FirstEvents.{after, eventsRun, firstEvents, freshOf, firstEventsRun};
+ghost use Rattle.in_place.specs.Changes.{noReset, sensorChange, rowChange, resetChange, changeOf};
 ghost use Rattle.in_place.specs.Parts.{SettledSixteen, LeavesSensor, LeavesRow, byStops, LeavesSensors};
 use band::BandColumns;
 use band::Row;
@@ -19,11 +22,44 @@ use drive::Kind;
 use geometry::Span;
 use script::EventRead;
 use sensor::Sensor;
-use sensor::SensorAnswer;
-use sensor::SensorColumns;
+use sensor::SensorEvent;
 
 // A reset type that is in no set: there is no reset.
 const NO_RESET: u64 = 255;
+
+// What an event changes of a drive, with what that needs.
+enum Change {
+    OneSensor {
+        at: usize,
+        event: SensorEvent,
+    },
+    OneRow {
+        at: usize,
+        columns: BandColumns,
+    },
+    // the sensors, or the whole drive
+    Elapse {
+        ticks: u64,
+    },
+    // the sensors
+    PowerCycle,
+    Spans {
+        band: u64,
+        start: u64,
+        length: u64,
+    },
+    // nothing
+    Transfer {
+        direction: u64,
+        start: u64,
+        count: u64,
+    },
+    // nothing: the answer's number, and the type of a reset or NO_RESET
+    Nothing {
+        number: u8,
+        reset_type: u64,
+    },
+}
 
 // What an event makes of one sensor: what is stored, the answer's number, and whether the condition is another.
 struct SensorAfter {
@@ -32,7 +68,7 @@ struct SensorAfter {
     turned: bool,
 }
 
-// What a Set makes of one row, which has settled, the answer's number, and whether the row is open.
+// What a Set makes of one row, which has settled, the answer's number, and whether the row is lockable.
 struct RowAfter {
     row: Row,
     number: u8,
@@ -67,9 +103,14 @@ fn differ(a: bool, b: bool) -> bool
     b
 }
 
-fn outcome(one: Sensor, r: SensorAnswer) -> SensorAfter
-    ensures { λ m. ⌜ LeavesSensor (numberOf (r .answer)) (r .sensor) one m ⌝ }
+// What an event makes of one sensor.
+fn on_sensor(one: Sensor, event: SensorEvent) -> SensorAfter
+    ensures { λ m. ⌜ LeavesSensor (sensorAnswer event) (sensorAfter event one) one m ⌝ }
 {
+    let r = match event {
+        SensorEvent::Reading { value } => one.reading(value),
+        SensorEvent::Set { columns } => one.set(columns),
+    };
     let answer = r.answer;
     let new = r.sensor;
     SensorAfter {
@@ -79,24 +120,8 @@ fn outcome(one: Sensor, r: SensorAnswer) -> SensorAfter
     }
 }
 
-// A reading of one sensor.
-fn read(one: Sensor, value: u64) -> SensorAfter
-    ensures { λ m. ⌜ LeavesSensor (readingAnswer value) (readingOf value one) one m ⌝ }
-{
-    let r = one.reading(value);
-    outcome(one, r)
-}
-
-// A Set of one sensor.
-fn set(one: Sensor, columns: SensorColumns) -> SensorAfter
-    ensures { λ m. ⌜ LeavesSensor (setAnswer columns) (setOf columns one) one m ⌝ }
-{
-    let r = one.set(columns);
-    outcome(one, r)
-}
-
 // A Set of one row, with the part of the script that holds the expression's bytes.
-fn form(
+fn on_row(
     one: Row,
     conditions: [bool; 16],
     columns: BandColumns,
@@ -106,7 +131,7 @@ fn form(
 ) -> RowAfter
     ensures { λ m. ⌜ LeavesRow conditions columns (tokensAt (now (script .entry)) place size) one m ⌝ }
 {
-    let tokens = script::tokens_at(script, place, size);
+    let tokens = reader::part_at(script, place, size);
     let r = row_set::set(one, conditions, columns, tokens);
     let formed = r.row;
     let answer = r.answer;
@@ -126,11 +151,11 @@ fn byte(stops: u64, sensors: [Sensor; 16]) -> u8
     stops as u8
 }
 
-// Whether an elapse goes from stop to stop with the bands settled at each: a timer ends in it while a row may be open.
+// Whether an elapse goes from stop to stop with the bands settled at each: a timer ends in it while a row may be lockable.
 fn by_stops(any_lockable: bool, all: [Sensor; 16], ticks: u64) -> bool
     ensures { λ r. ⌜ r ≡ byStops «any_lockable» ticks all ⌝ }
 {
-    if 4_294_967_295 < ticks {
+    if elapse::MOST_TICKS < ticks {
         return false;
     }
     if any_lockable {
@@ -144,7 +169,7 @@ fn by_stops(any_lockable: bool, all: [Sensor; 16], ticks: u64) -> bool
 fn pass(all: [Sensor; 16], ticks: u64) -> SensorsAfter
     ensures { λ r. ⌜ LeavesSensors ticks all r ⌝ }
 {
-    if 4_294_967_295 < ticks {
+    if elapse::MOST_TICKS < ticks {
         return SensorsAfter {
             sensors: all,
             number: 2,
@@ -171,26 +196,114 @@ fn pass(all: [Sensor; 16], ticks: u64) -> SensorsAfter
 
 // The number of a reset's answer.
 fn reset_number(reset_type: u64) -> u8
-    ensures { λ r. ⌜ r ≡ cond (ltb 2 «reset_type») 2 0 ⌝ }
+    ensures { λ r. ⌜ r ≡ cond (ltb lastResetType «reset_type») 2 0 ⌝ }
 {
-    if 2 < reset_type { 2 } else { 0 }
+    if Row::LAST_RESET < reset_type { 2 } else { 0 }
+}
+
+// The change of an event on one sensor: none where the sensor is not there.
+fn sensor_change(count: usize, sensor: u64, event: SensorEvent) -> Change
+    ensures { λ r. ⌜ r ≡ sensorChange count sensor event ⌝ }
+{
+    if drive::no_row(count, sensor) {
+        return Change::Nothing {
+            number: 1,
+            reset_type: NO_RESET,
+        };
+    }
+    Change::OneSensor {
+        at: sensor as usize,
+        event,
+    }
+}
+
+// The change of a band Set: none where the band is not there.
+fn row_change(count: usize, band: u64, columns: BandColumns) -> Change
+    ensures { λ r. ⌜ r ≡ rowChange count band columns ⌝ }
+{
+    if drive::no_row(count, band) {
+        return Change::Nothing {
+            number: 1,
+            reset_type: NO_RESET,
+        };
+    }
+    Change::OneRow {
+        at: band as usize,
+        columns,
+    }
+}
+
+// The change of a reset: of the sensors where it is a power cycle.
+fn reset_change(reset_type: u64) -> Change
+    ensures { λ r. ⌜ r ≡ resetChange «reset_type» ⌝ }
+{
+    if reset_type == 0 {
+        return Change::PowerCycle;
+    }
+    Change::Nothing {
+        number: reset_number(reset_type),
+        reset_type,
+    }
+}
+
+// What an event changes.
+fn change_of(kind: Kind, sensor_count: usize, band_count: usize) -> Change
+    ensures { λ r. ⌜ r ≡ changeOf «sensor_count» «band_count» kind ⌝ }
+{
+    match kind {
+        Kind::Reading { sensor, value } => {
+            sensor_change(sensor_count, sensor, SensorEvent::Reading { value })
+        }
+        Kind::Elapse { ticks } => Change::Elapse { ticks },
+        Kind::Reset { reset_type } => reset_change(reset_type),
+        Kind::SensorSet { sensor, columns } => {
+            sensor_change(sensor_count, sensor, SensorEvent::Set { columns })
+        }
+        Kind::BandSet { band, columns } => row_change(band_count, band, columns),
+        Kind::Geometry {
+            band,
+            start: first,
+            length,
+        } => Change::Spans {
+            band,
+            start: first,
+            length,
+        },
+        Kind::Transfer {
+            direction,
+            start: first,
+            count: blocks,
+        } => Change::Transfer {
+            direction,
+            start: first,
+            count: blocks,
+        },
+    }
+}
+
+// Whether there is a reset.
+fn is_reset(reset_type: u64) -> bool
+    ensures { λ r. ⌜ r ≡ not (eqb «reset_type» noReset) ⌝ }
+{
+    reset_type != NO_RESET
 }
 
 // The number of a transfer's answer, from the bands that are closed in its direction.
 fn transfer_number(
     capacity: u64,
     band_count: usize,
+    rows: [Row; 16],
     spans: [Span; 16],
-    closed: [bool; 16],
     direction: u64,
     first: u64,
     blocks: u64,
 ) -> u8
-    ensures { λ r. ⌜ r ≡ cond (ltb 1 direction) 2 (transferAnswer capacity «band_count» spans closed first blocks) ⌝ }
+    ensures { λ r. ⌜ r ≡ cond (ltb 1 direction) 2 (transferAnswer capacity «band_count» spans (map (closedOn (sideOf direction)) rows) first blocks) ⌝ }
 {
     if 1 < direction {
         return 2;
     }
+    let closed = bands::closed_sides(rows, drive::side(direction));
     let answer = geometry::transfer(capacity, band_count, spans, closed, first, blocks);
     answer.number()
 }
@@ -209,12 +322,18 @@ fn run_settled(
     ensures { λ r. ⌜ after r (now (answers .exit)) (now (stops .exit)) ≡ eventsRun fresh (firstEvents count (now (script .entry)) start) (now (answers .entry)) (now (stops .entry)) ⌝ }
 {
     let mut drive = fresh;
-    // Whether some row may be open: else nothing settles, and no reset locks a side.
+    // Whether some row may be lockable: else nothing settles, and no reset locks a side.
     let mut any_lockable = true;
     let mut at = start;
     let mut i = 0;
     while i < count {
-        let EventRead::Is { kind, start: place, count: size, next } = reader::next_event(script, at) else {
+        let EventRead::Is {
+            kind,
+            start: place,
+            count: size,
+            next,
+        } = reader::next_event(script, at)
+        else {
             return drive;
         };
         at = next;
@@ -223,21 +342,27 @@ fn run_settled(
         // Whether rows may lock, and the type of the reset that is to lock them.
         let mut due = false;
         let mut locking = NO_RESET;
-        match kind {
-            Kind::Reading { sensor, value } => {
-                if drive::no_row(drive.sensor_count, sensor) {
-                    number = 1;
-                } else {
-                    let j = sensor as usize;
-                    let one = drive.sensors[j];
-                    let r = read(one, value);
-                    let new = r.sensor;
-                    drive.sensors[j] = new;
-                    number = r.number;
-                    due = r.turned;
-                }
+        let change = change_of(kind, drive.sensor_count, drive.band_count);
+        match change {
+            Change::OneSensor { at: j, event } => {
+                let one = drive.sensors[j];
+                let r = on_sensor(one, event);
+                let new = r.sensor;
+                drive.sensors[j] = new;
+                number = r.number;
+                due = r.turned;
             }
-            Kind::Elapse { ticks } => {
+            Change::OneRow { at: j, columns } => {
+                let all = drive.sensors;
+                let conditions = sensors::conditions(all, drive.sensor_count);
+                let one = drive.rows[j];
+                let r = on_row(one, conditions, columns, script, place, size);
+                let new = r.row;
+                drive.rows[j] = new;
+                number = r.number;
+                any_lockable = either(any_lockable, r.lockable);
+            }
+            Change::Elapse { ticks } => {
                 let all = drive.sensors;
                 if by_stops(any_lockable, all, ticks) {
                     let elapsed = elapse::elapse(drive, ticks as u32);
@@ -246,52 +371,25 @@ fn run_settled(
                     ended = byte(elapsed.stops, all);
                     due = true;
                 } else {
-                    let passed = pass(all, ticks);
-                    let after = passed.sensors;
+                    let r = pass(all, ticks);
+                    let after = r.sensors;
                     drive.sensors = after;
-                    number = passed.number;
-                    ended = passed.stops;
+                    number = r.number;
+                    ended = r.stops;
                 }
             }
-            Kind::Reset { reset_type } => {
-                number = reset_number(reset_type);
+            Change::PowerCycle => {
+                let all = drive.sensors;
+                let after = sensors::power_cycle_all(all);
+                drive.sensors = after;
                 due = true;
-                locking = reset_type;
-                if reset_type == 0 {
-                    let all = drive.sensors;
-                    let after = sensors::power_cycle_all(all);
-                    drive.sensors = after;
-                }
+                locking = 0;
             }
-            Kind::SensorSet { sensor, columns } => {
-                if drive::no_row(drive.sensor_count, sensor) {
-                    number = 1;
-                } else {
-                    let j = sensor as usize;
-                    let one = drive.sensors[j];
-                    let r = set(one, columns);
-                    let new = r.sensor;
-                    drive.sensors[j] = new;
-                    number = r.number;
-                    due = r.turned;
-                }
-            }
-            Kind::BandSet { band, columns } => {
-                if drive::no_row(drive.band_count, band) {
-                    number = 1;
-                } else {
-                    let j = band as usize;
-                    let all = drive.sensors;
-                    let conditions = sensors::conditions(all, drive.sensor_count);
-                    let one = drive.rows[j];
-                    let r = form(one, conditions, columns, script, place, size);
-                    let new = r.row;
-                    drive.rows[j] = new;
-                    number = r.number;
-                    any_lockable = either(any_lockable, r.lockable);
-                }
-            }
-            Kind::Geometry { band, start: first, length } => {
+            Change::Spans {
+                band,
+                start: first,
+                length,
+            } => {
                 let spans = drive.spans;
                 let r = geometry::place(
                     drive.capacity,
@@ -306,19 +404,30 @@ fn run_settled(
                 let answer = r.answer;
                 number = answer.number();
             }
-            Kind::Transfer { direction, start: first, count: blocks } => {
+            Change::Transfer {
+                direction,
+                start: first,
+                count: blocks,
+            } => {
                 let rows = drive.rows;
-                let closed = bands::closed_sides(rows, drive::side(direction));
                 let spans = drive.spans;
                 number = transfer_number(
                     drive.capacity,
                     drive.band_count,
+                    rows,
                     spans,
-                    closed,
                     direction,
                     first,
                     blocks,
                 );
+            }
+            Change::Nothing {
+                number: n,
+                reset_type,
+            } => {
+                number = n;
+                due = is_reset(reset_type);
+                locking = reset_type;
             }
         }
         if both(any_lockable, due) {
@@ -328,8 +437,9 @@ fn run_settled(
             for j in 0..16 {
                 let row = drive.rows[j];
                 if row.lockable() {
-                    if row.locks(locking, conditions) {
-                        let new = row.lock();
+                    let one = drive.rows[j];
+                    if one.locks(locking, conditions) {
+                        let new = one.lock();
                         drive.rows[j] = new;
                     } else {
                         any_lockable = true;

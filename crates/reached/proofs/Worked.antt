@@ -19,8 +19,7 @@ use Rattle.sensor.specs.Single.{freshSensor, onOf, offOf, moved, movedBy, withL
 use Rattle.sensor.specs.Single.{afterCause}
 use Rattle.sensor.specs.Single.{sensorTick}
 use Rattle.sensor.specs.Columns.{columnsFit, storedOf, switchedOf, setOf}
-use Rattle.sensor.proofs.Levels.{high-true, low-false, inside-keeps, high-false}
-use Rattle.sensor.proofs.Motion.{waitingAt, turn-waits}
+use Rattle.sensor.proofs.Worked.{below-both, at-both, at-off, above-off, two-old, three-new}
 use Rattle.evaluator.specs.Value.{evaluate, valueOf}
 use Rattle.evaluator.proofs.Bits.{absent}
 use Rattle.token_reader.specs.Format.{startsWith, partIn, isEnd}
@@ -38,88 +37,6 @@ use Rattle.reached.specs.Starred.{row, NOT, Starred}
 not-99 : (conditions : List Bool) → length conditions ≡ 16 → valueOf conditions (row 99 ∷ NOT ∷ []) ≡ true
 unfolding valueOf evaluate
 not-99 conditions e = ap not (sym (absent conditions 99 e (omega arith)))
-
--- ---- levels
-
-move-level : (m : Move) (s : Sensor) → movedBy m s .level ≡ s .level
-move-level Stays s = refl
-move-level (Enters p) s = refl
-
-turn-level : (l : Bool) (s : Sensor) → levelAfter (turnCause l s) (s .level) ≡ l
-turn-level true s = go (eqb (s .«on_timeout») 0)
-  where
-    go : (atOnce : Bool) → levelAfter (cond atOnce TrueAtOnce TrueWaiting) (s .level) ≡ true
-    go true = refl
-    go false = refl
-turn-level false s = go (eqb (s .«off_timeout») 0)
-  where
-    go : (atOnce : Bool) → levelAfter (cond atOnce FalseAtOnce FalseWaiting) (s .level) ≡ false
-    go true = refl
-    go false = refl
-
-same-level : (a b : Bool) → Bool·beq a b ≡ true → b ≡ a
-same-level true true e = refl
-same-level true false e = e
-same-level false true e = sym e
-same-level false false e = refl
-
-turned-level : (l : Bool) (s : Sensor) → turnedTo l s .level ≡ l
-unfolding turnedTo afterCause
-turned-level l s = go (Bool·beq l (s .level)) refl
-  where
-    go : (b : Bool) → Bool·beq l (s .level) ≡ b → cond b s (afterCause (turnCause l s) s) .level ≡ l
-    go true e = same-level l (s .level) e
-    go false e = move-level (moveOf (s .phase) (turnCause l s)) (withLevel (levelAfter (turnCause l s) (s .level)) s) ∙ turn-level l s
-
--- the level after a reading is the one that the rule gives
-reading-level : (v : ℕ) (s : Sensor) → v ≤ greatestReading → readingOf v s .level ≡ levelRule (onOf s) (offOf s) v (s .level)
-unfolding readingOf judgeOf
-reading-level v s h = rw (le-ltb greatestReading v h) (turned-level (judgeOf v s) s)
-
-module _ (s : Sensor) where
-  module _ (p : onOf s ≡ 5000) (q : offOf s ≡ 5000) where
-    below-both : readingOf 4999 s .level ≡ false
-    below-both =
-        reading-level 4999 s (omega arith) ∙ low-false (onOf s) (offOf s) 4999 (s .level) (omega arith) (omega arith) (omega arith)
-
-    at-both : readingOf 5000 s .level ≡ true
-    at-both = reading-level 5000 s (omega arith) ∙ high-true (onOf s) (offOf s) 5000 (s .level) (omega arith) (omega arith)
-
-  module _ (p : onOf s ≡ 2000) (q : offOf s ≡ 3000) where
-    at-off : readingOf 3000 s .level ≡ s .level
-    at-off =
-        reading-level 3000 s (omega arith) ∙ inside-keeps (onOf s) (offOf s) 3000 (s .level) (omega arith) (omega arith) (omega arith)
-
-    above-off : readingOf 3001 s .level ≡ false
-    above-off =
-        reading-level 3001 s (omega arith) ∙ high-false (onOf s) (offOf s) 3001 (s .level) (omega arith) (omega arith) (omega arith)
-
--- ---- timers
-
--- a sensor that waits for three ticks
-abbrev waits : Bool → Sensor → Sensor
-waits level s = moved level (waitingAt level) (s .condition) 3 s
-
-after-two : (level : Bool) (s : Sensor) → ticks sensorTick 2 (waits level s) .condition ≡ s .condition
-unfolding ticks sensorTick
-after-two level s = refl
-
-after-three : (level : Bool) (s : Sensor) → ticks sensorTick 3 (waits level s) .condition ≡ level
-unfolding ticks sensorTick afterCause moveOf
-after-three true s = refl
-after-three false s = refl
-
-module _ (level : Bool) (s : Sensor) (on : isEnabled (s .phase) ≡ true) (turns : Bool·beq level (s .level) ≡ false)
-    (e : cond level (s .«on_timeout») (s .«off_timeout») ≡ 3) where
-  three-ticks : turnedTo level s ≡ waits level s
-  three-ticks =
-      turn-waits level s on turns (λ z. omega arith) ∙ ap (λ (t : ℕ). moved level (waitingAt level) (s .condition) t s) e
-
-  two-old : ticks sensorTick 2 (turnedTo level s) .condition ≡ s .condition
-  two-old = ap (λ (x : Sensor). ticks sensorTick 2 x .condition) three-ticks ∙ after-two level s
-
-  three-new : ticks sensorTick 3 (turnedTo level s) .condition ≡ level
-  three-new = ap (λ (x : Sensor). ticks sensorTick 3 x .condition) three-ticks ∙ after-three level s
 
 -- The cases with numbers in them compute, through these definitions: tokens and values, rows, sensors, geometry, and the drive.
 pub starred : Starred

@@ -1,7 +1,9 @@
 -- What every event and every tick keeps of a sensor: the facts that the layers above carry from drive to drive.
 use Rattle.sensor.specs.declared.single.Sensor.{Sensor}
 use Rattle.sensor.specs.Single.{freshSensor, powerCycleOf, sensorTick}
-use Rattle.sensor.specs.Columns.{SensorEvent, reads, sets, sensorAfter}
+use Rattle.sensor.specs.declared.columns.SensorEvent.{SensorEvent}
+use Rattle.sensor.specs.declared.columns.SensorEvent.the-variants as E
+use Rattle.sensor.specs.Columns.{sensorAfter}
 use Rattle.sensor.specs.Sound.{Sound, Timed}
 use Rattle.sensor.proofs.Soundness.{fresh-sound, tick-sound, reading-sound, power-cycle-sound, set-sound}
 use Rattle.sensor.proofs.Bounds.{fresh-timed, tick-timed, reading-timed, cycle-timed, set-timed}
@@ -14,15 +16,15 @@ pub record Keeps (P : Sensor → Type 0) : Type 0 where
   pub cycle : (s : Sensor) → P s → P (powerCycleOf s)
 
 event-sound : (x : SensorEvent) (s : Sensor) → Sound s → Sound (sensorAfter x s)
-event-sound (reads v) = reading-sound v
-event-sound (sets c) = set-sound c
+event-sound (E.Reading v) = reading-sound v
+event-sound (E.Set c) = set-sound c
 
 pub keeps-sound : Keeps Sound
 keeps-sound = record { fresh = fresh-sound; event = event-sound; tick = tick-sound; cycle = power-cycle-sound }
 
 event-timed : (x : SensorEvent) (s : Sensor) → Timed s → Timed (sensorAfter x s)
-event-timed (reads v) = reading-timed v
-event-timed (sets c) = set-timed c
+event-timed (E.Reading v) = reading-timed v
+event-timed (E.Set c) = set-timed c
 
 pub keeps-timed : Keeps Timed
 keeps-timed = record { fresh = fresh-timed; event = event-timed; tick = tick-timed; cycle = cycle-timed }

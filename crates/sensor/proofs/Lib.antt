@@ -7,3 +7,5 @@ pub mod Levels
 pub mod Lag
 pub mod Bounds
 pub mod Keeping
+pub mod Refused
+pub mod Worked

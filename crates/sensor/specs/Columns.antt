@@ -7,7 +7,9 @@ use Rattle.base.specs.Columns.{named, within}
 use Rattle.base.specs.Refusals.{Refusal, when, firstOf}
 use Rattle.sensor.specs.declared.single.Sensor.{Sensor}
 use Rattle.sensor.specs.declared.columns.SensorColumns.{SensorColumns}
-use Rattle.sensor.specs.Single.{readingOf, enableOf, disableOf}
+use Rattle.sensor.specs.declared.columns.SensorEvent.{SensorEvent}
+use Rattle.sensor.specs.declared.columns.SensorEvent.the-variants as E
+use Rattle.sensor.specs.Single.{readingAnswer, readingOf, enableOf, disableOf}
 
 -- "Thresholds and timeouts are 0 to 4,294,967,295; fractions 0 to 999." "A boolean is 0 or 1."
 abbrev pub greatestNumber : ℕ
@@ -65,13 +67,12 @@ switchedOf c s = cond (named 1 (c .mask)) (cond (eqb (c .enabled) 1) (enableOf s
 unfoldable pub setOf : SensorColumns → Sensor → Sensor
 setOf c s = cond (columnsFit c) (switchedOf c (storedOf c s)) s
 
--- ---- the events on one sensor
+-- ---- the events on one sensor that is there: a reading, and a Set
 
-pub data SensorEvent : Type 0 where
-  reads : (value : ℕ) → SensorEvent
-  sets : (columns : SensorColumns) → SensorEvent
+abbrev pub sensorAnswer : SensorEvent → ℕ
+sensorAnswer (E.Reading v) = readingAnswer v
+sensorAnswer (E.Set c) = setAnswer c
 
--- the sensor after an event on it
 abbrev pub sensorAfter : SensorEvent → Sensor → Sensor
-sensorAfter (reads v) = readingOf v
-sensorAfter (sets c) = setOf c
+sensorAfter (E.Reading v) = readingOf v
+sensorAfter (E.Set c) = setOf c

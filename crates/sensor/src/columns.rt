@@ -22,6 +22,12 @@ pub struct SensorColumns {
     pub off_timeout: u64,
 }
 
+// An event on one sensor.
+pub enum SensorEvent {
+    Reading { value: u64 },
+    Set { columns: SensorColumns },
+}
+
 impl SensorColumns {
     // The masks of seven bits are those below.
     pub const MASKS: u64 = 128;

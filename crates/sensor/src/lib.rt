@@ -3,5 +3,6 @@ mod columns;
 mod single;
 
 pub use columns::SensorColumns;
+pub use columns::SensorEvent;
 pub use single::Sensor;
 pub use single::SensorAnswer;

@@ -1,11 +1,12 @@
 use Prim.Native.Nat.{_-_, _<_}
 use native.Mathlib.Omega.{arith}
+use mathlib.Core.Path.{refl}
 use mathlib.Core.Logic.{⊎-elim}
 use borrow.Author.Needs.{needs}
-use Rattle.base.proofs.Rows.{row-place}
-use Rattle.in_place.proofs.Storing.{stops-short, half-idle, reading-absent, reading-half, elapse-half, pass-half, reset-cycle, reset-other, set-absent, set-half, band-absent, band-half, geometry-half, transfer-half}
-use Rattle.in_place.proofs.Finishing.{RowsFinished, close-begin, close-lock, close-stay, close-pass, close-as, closed-ran, closed-flag}
-use Rattle.in_place.proofs.Running.{RunSoFar, run-begin, run-broken, run-done, next, stored-as, stored-long, run-again, elapse-fits, row-scaled}
+use Rattle.in_place.proofs.Storing.{stored-idle, sensor-stored, nothing-stored, stops-short, stops-stored, pass-stored, cycle-stored, row-stored, spans-stored, transfer-stored}
+use Rattle.in_place.proofs.Changing.{sensor-place, sensor-scaled, row-placed, row-scaled}
+use Rattle.in_place.proofs.Finishing.{RowsFinished, finish-begin, finish-lock, finish-stay, finish-pass, finish-as, finished-ran, finished-flag}
+use Rattle.in_place.proofs.Running.{RunSoFar, run-begin, run-broken, run-done, next, next-says, stored-as, stored-long, run-again, elapse-fits}
 use Rattle.in_place.proofs.run_settled.Statement.{statement}
 use Rattle.in_place.proofs.run_settled.Tie as tie
 
@@ -50,35 +51,59 @@ same-length-2 c = search needs
 returns : tie.Need-returns Inv-loop2 μ-loop2 Inv-loop μ-loop
 returns c = search (run-broken, needs)
 
-enum-known-kind-2 : tie.Need-enum-known-kind-2 Inv-loop2 μ-loop2 Inv-loop μ-loop
-enum-known-kind-2 c = search needs
+change-of-requires : tie.Need-change-of-requires Inv-loop2 μ-loop2 Inv-loop μ-loop
+change-of-requires c κs = search needs
 
-no-row-requires : tie.Need-no-row-requires Inv-loop2 μ-loop2 Inv-loop μ-loop
-no-row-requires c κs = search needs
+enum-known-change : tie.Need-enum-known-change Inv-loop2 μ-loop2 Inv-loop μ-loop
+enum-known-change c = search needs
 
 mul-one : tie.Need-mul-one Inv-loop2 μ-loop2 Inv-loop μ-loop
-mul-one c = search (row-scaled, needs)
+mul-one c = search (sensor-scaled, needs)
 
 element-copy-out-one : tie.Need-element-copy-out-one Inv-loop2 μ-loop2 Inv-loop μ-loop
-element-copy-out-one c = search row-place
+element-copy-out-one c = search sensor-place
 
-read-requires : tie.Need-read-requires Inv-loop2 μ-loop2 Inv-loop μ-loop
-read-requires c κs = search needs
+on-sensor-requires : tie.Need-on-sensor-requires Inv-loop2 μ-loop2 Inv-loop μ-loop
+on-sensor-requires c κs = search needs
 
 mul-new : tie.Need-mul-new Inv-loop2 μ-loop2 Inv-loop μ-loop
-mul-new c = search (row-scaled, needs)
+mul-new c = search (sensor-scaled, needs)
 
 element-set-from-new : tie.Need-element-set-from-new Inv-loop2 μ-loop2 Inv-loop μ-loop
-element-set-from-new c = search row-place
+element-set-from-new c = search sensor-place
 
-enum-known-kind-3 : tie.Need-enum-known-kind-3 Inv-loop2 μ-loop2 Inv-loop μ-loop
-enum-known-kind-3 c = search needs
+enum-known-change-2 : tie.Need-enum-known-change-2 Inv-loop2 μ-loop2 Inv-loop μ-loop
+enum-known-change-2 c = search needs
+
+conditions-requires : tie.Need-conditions-requires Inv-loop2 μ-loop2 Inv-loop μ-loop
+conditions-requires c κs = search needs
+
+mul-one-2 : tie.Need-mul-one-2 Inv-loop2 μ-loop2 Inv-loop μ-loop
+mul-one-2 c = search (row-scaled, needs)
+
+element-copy-out-one-2 : tie.Need-element-copy-out-one-2 Inv-loop2 μ-loop2 Inv-loop μ-loop
+element-copy-out-one-2 c = search row-placed
+
+on-row-requires : tie.Need-on-row-requires Inv-loop2 μ-loop2 Inv-loop μ-loop
+on-row-requires c κs = search needs
+
+mul-new-2 : tie.Need-mul-new-2 Inv-loop2 μ-loop2 Inv-loop μ-loop
+mul-new-2 c = search (row-scaled, needs)
+
+element-set-from-new-2 : tie.Need-element-set-from-new-2 Inv-loop2 μ-loop2 Inv-loop μ-loop
+element-set-from-new-2 c = search row-placed
+
+either-requires : tie.Need-either-requires Inv-loop2 μ-loop2 Inv-loop μ-loop
+either-requires c κs = search needs
+
+enum-known-change-3 : tie.Need-enum-known-change-3 Inv-loop2 μ-loop2 Inv-loop μ-loop
+enum-known-change-3 c = search needs
 
 by-stops-requires : tie.Need-by-stops-requires Inv-loop2 μ-loop2 Inv-loop μ-loop
 by-stops-requires c κs = search needs
 
 cast-elapse : tie.Need-cast-elapse Inv-loop2 μ-loop2 Inv-loop μ-loop
-cast-elapse c = let h = stops-short _ _ _ _ (c .before .by-stops .ensures) (c .if2 .taken) in search needs
+cast-elapse c = let h = stops-short _ _ _ _ (c .before .by-stops .ensures) (c .if1 .taken) in search needs
 
 elapse-requires : tie.Need-elapse-requires Inv-loop2 μ-loop2 Inv-loop μ-loop
 elapse-requires c κs = search needs
@@ -89,65 +114,14 @@ byte-requires c κs = search elapse-fits
 pass-requires : tie.Need-pass-requires Inv-loop2 μ-loop2 Inv-loop μ-loop
 pass-requires c κs = search needs
 
-enum-known-kind-4 : tie.Need-enum-known-kind-4 Inv-loop2 μ-loop2 Inv-loop μ-loop
-enum-known-kind-4 c = search needs
-
-reset-number-requires : tie.Need-reset-number-requires Inv-loop2 μ-loop2 Inv-loop μ-loop
-reset-number-requires c κs = search needs
+enum-told-2 : tie.Need-enum-told-2 Inv-loop2 μ-loop2 Inv-loop μ-loop
+enum-told-2 c = search needs
 
 power-cycle-all-requires : tie.Need-power-cycle-all-requires Inv-loop2 μ-loop2 Inv-loop μ-loop
 power-cycle-all-requires c κs = search needs
 
-enum-known-kind-5 : tie.Need-enum-known-kind-5 Inv-loop2 μ-loop2 Inv-loop μ-loop
-enum-known-kind-5 c = search needs
-
-no-row-requires-2 : tie.Need-no-row-requires-2 Inv-loop2 μ-loop2 Inv-loop μ-loop
-no-row-requires-2 c κs = search needs
-
-mul-one-2 : tie.Need-mul-one-2 Inv-loop2 μ-loop2 Inv-loop μ-loop
-mul-one-2 c = search (row-scaled, needs)
-
-element-copy-out-one-2 : tie.Need-element-copy-out-one-2 Inv-loop2 μ-loop2 Inv-loop μ-loop
-element-copy-out-one-2 c = search row-place
-
-set-requires : tie.Need-set-requires Inv-loop2 μ-loop2 Inv-loop μ-loop
-set-requires c κs = search needs
-
-mul-new-2 : tie.Need-mul-new-2 Inv-loop2 μ-loop2 Inv-loop μ-loop
-mul-new-2 c = row-scaled _ _ _ _ (c .before .before .before .before .no-row2 .ensures) (c .before .before .before .if4 .left) (omega arith)
-
-element-set-from-new-2 : tie.Need-element-set-from-new-2 Inv-loop2 μ-loop2 Inv-loop μ-loop
-element-set-from-new-2 c = search row-place
-
-enum-known-kind-6 : tie.Need-enum-known-kind-6 Inv-loop2 μ-loop2 Inv-loop μ-loop
-enum-known-kind-6 c = search needs
-
-no-row-requires-3 : tie.Need-no-row-requires-3 Inv-loop2 μ-loop2 Inv-loop μ-loop
-no-row-requires-3 c κs = search needs
-
-conditions-requires : tie.Need-conditions-requires Inv-loop2 μ-loop2 Inv-loop μ-loop
-conditions-requires c κs = search needs
-
-mul-one-3 : tie.Need-mul-one-3 Inv-loop2 μ-loop2 Inv-loop μ-loop
-mul-one-3 c = search (row-scaled, needs)
-
-element-copy-out-one-3 : tie.Need-element-copy-out-one-3 Inv-loop2 μ-loop2 Inv-loop μ-loop
-element-copy-out-one-3 c = search row-place
-
-form-requires : tie.Need-form-requires Inv-loop2 μ-loop2 Inv-loop μ-loop
-form-requires c κs = search needs
-
-mul-new-3 : tie.Need-mul-new-3 Inv-loop2 μ-loop2 Inv-loop μ-loop
-mul-new-3 c = search (row-scaled, needs)
-
-element-set-from-new-3 : tie.Need-element-set-from-new-3 Inv-loop2 μ-loop2 Inv-loop μ-loop
-element-set-from-new-3 c = search row-place
-
-either-requires : tie.Need-either-requires Inv-loop2 μ-loop2 Inv-loop μ-loop
-either-requires c κs = search needs
-
-enum-known-kind-7 : tie.Need-enum-known-kind-7 Inv-loop2 μ-loop2 Inv-loop μ-loop
-enum-known-kind-7 c = search needs
+enum-known-change-4 : tie.Need-enum-known-change-4 Inv-loop2 μ-loop2 Inv-loop μ-loop
+enum-known-change-4 c = search needs
 
 place-requires : tie.Need-place-requires Inv-loop2 μ-loop2 Inv-loop μ-loop
 place-requires c κs = search needs
@@ -155,17 +129,17 @@ place-requires c κs = search needs
 number-requires : tie.Need-number-requires Inv-loop2 μ-loop2 Inv-loop μ-loop
 number-requires c κs = search needs
 
-enum-known-kind-8 : tie.Need-enum-known-kind-8 Inv-loop2 μ-loop2 Inv-loop μ-loop
-enum-known-kind-8 c = search needs
-
-side-requires : tie.Need-side-requires Inv-loop2 μ-loop2 Inv-loop μ-loop
-side-requires c κs = search needs
-
-closed-sides-requires : tie.Need-closed-sides-requires Inv-loop2 μ-loop2 Inv-loop μ-loop
-closed-sides-requires c κs = search needs
+enum-known-change-5 : tie.Need-enum-known-change-5 Inv-loop2 μ-loop2 Inv-loop μ-loop
+enum-known-change-5 c = search needs
 
 transfer-number-requires : tie.Need-transfer-number-requires Inv-loop2 μ-loop2 Inv-loop μ-loop
 transfer-number-requires c κs = search needs
+
+enum-known-change-6 : tie.Need-enum-known-change-6 Inv-loop2 μ-loop2 Inv-loop μ-loop
+enum-known-change-6 c = search needs
+
+is-reset-requires : tie.Need-is-reset-requires Inv-loop2 μ-loop2 Inv-loop μ-loop
+is-reset-requires c κs = search needs
 
 both-requires : tie.Need-both-requires Inv-loop2 μ-loop2 Inv-loop μ-loop
 both-requires c κs = search needs
@@ -174,7 +148,7 @@ conditions-requires-2 : tie.Need-conditions-requires-2 Inv-loop2 μ-loop2 Inv-lo
 conditions-requires-2 c κs = search needs
 
 loop2-holds : tie.Need-loop2-holds Inv-loop2 μ-loop2 Inv-loop μ-loop
-loop2-holds c = search close-begin
+loop2-holds c = search finish-begin
 
 mul-row : tie.Need-mul-row Inv-loop2 μ-loop2 Inv-loop μ-loop
 mul-row c = search needs
@@ -185,17 +159,23 @@ element-copy-out-row c = search needs
 lockable-requires : tie.Need-lockable-requires Inv-loop2 μ-loop2 Inv-loop μ-loop
 lockable-requires c κs = search needs
 
+mul-one-3 : tie.Need-mul-one-3 Inv-loop2 μ-loop2 Inv-loop μ-loop
+mul-one-3 c = search needs
+
+element-copy-out-one-3 : tie.Need-element-copy-out-one-3 Inv-loop2 μ-loop2 Inv-loop μ-loop
+element-copy-out-one-3 c = search needs
+
 locks-requires : tie.Need-locks-requires Inv-loop2 μ-loop2 Inv-loop μ-loop
 locks-requires c κs = search needs
 
 lock-requires : tie.Need-lock-requires Inv-loop2 μ-loop2 Inv-loop μ-loop
 lock-requires c κs = search needs
 
-mul-new-4 : tie.Need-mul-new-4 Inv-loop2 μ-loop2 Inv-loop μ-loop
-mul-new-4 c = search needs
+mul-new-3 : tie.Need-mul-new-3 Inv-loop2 μ-loop2 Inv-loop μ-loop
+mul-new-3 c = search needs
 
-element-set-from-new-4 : tie.Need-element-set-from-new-4 Inv-loop2 μ-loop2 Inv-loop μ-loop
-element-set-from-new-4 c = search needs
+element-set-from-new-3 : tie.Need-element-set-from-new-3 Inv-loop2 μ-loop2 Inv-loop μ-loop
+element-set-from-new-3 c = search needs
 
 add-j : tie.Need-add-j Inv-loop2 μ-loop2 Inv-loop μ-loop
 add-j c = search needs
@@ -206,10 +186,10 @@ loop2-less c = omega (arith, c .before .before .before .loop2-test .taken)
 loop2-again : tie.Need-loop2-again Inv-loop2 μ-loop2 Inv-loop μ-loop
 loop2-again c =
     let g = c .before .before .before .before .loop2 .inv in
-    ⊎-elim (λ w. close-as (close-lock _ _ _ _ _ _ _ g _ _ (w .1 .ensures) (w .2 .taken) (w .3 .ensures)) (w .4) (w .5))
-    (⊎-elim (λ w. close-as (close-stay _ _ _ _ _ _ _ g _ (w .1 .ensures) (w .2 .left)) (w .3) (w .4))
-    (λ w. close-as (close-pass _ _ _ _ _ _ _ g _ (c .before .lockable .ensures) (w .0 .left)) (w .1) (w .2)))
-    (c .if7 .came)
+    ⊎-elim (λ w. finish-as (finish-lock _ _ _ _ _ _ _ g _ _ (w .2 .ensures) (w .3 .taken) (w .4 .ensures)) (w .5) (w .6))
+    (⊎-elim (λ w. finish-as (finish-stay _ _ _ _ _ _ _ g _ (w .2 .ensures) (w .3 .left)) (w .4) (w .5))
+    (λ w. finish-as (finish-pass _ _ _ _ _ _ _ g _ (c .before .lockable .ensures) (w .0 .left)) (w .1) (w .2)))
+    (c .if3 .came)
 
 slice-write-answers : tie.Need-slice-write-answers Inv-loop2 μ-loop2 Inv-loop μ-loop
 slice-write-answers c = search needs
@@ -221,28 +201,24 @@ add-i : tie.Need-add-i Inv-loop2 μ-loop2 Inv-loop μ-loop
 add-i c = search needs
 
 loop-less : tie.Need-loop-less Inv-loop2 μ-loop2 Inv-loop μ-loop
-loop-less c = omega (arith, c .before .before .before .before .before .before .before .loop-test .taken)
+loop-less c = omega (arith, c .before .before .before .before .before .before .before .before .loop-test .taken)
 
 loop-again : tie.Need-loop-again Inv-loop2 μ-loop2 Inv-loop μ-loop
 loop-again c =
-    let g = next (c .before .before .before .before .before .before .before .before .loop .inv) (c .before .before .before .before .before .before .before .loop-test .taken) (c .before .before .before .before .before .before .before .before .before .before .before .before .pre .0) (c .before .before .before .before .before .before .next-event .ensures) (c .before .before .before .before .kind .given .1) in
+    let g = next (c .before .before .before .before .before .before .before .before .before .loop .inv) (c .before .before .before .before .before .before .before .before .loop-test .taken) (c .before .before .before .before .before .before .before .before .before .before .before .before .before .pre .0) (c .before .before .before .before .before .before .before .next-event .ensures) (c .before .before .before .before .before .kind .given .1) in
     let h =
-    ⊎-elim (λ w. stored-as g (w .1 .given .1) (reading-absent _ (g .sofar .kept) _ _ _ above (g .sofar .flag) _ _ _ (w .3 .ensures) (w .4 .taken)) (w .5) (w .6) (w .7) (w .8) (w .9) (w .10))
-    (⊎-elim (λ w. stored-as g (w .1 .given .1) (reading-half _ (g .sofar .kept) _ _ (w .3 .ensures) (w .4 .left) _ _ _ _ _ (w .6 .ensures) above (g .sofar .flag)) (w .8) (w .9) (w .10) (w .11) (w .12) (w .13))
-    (⊎-elim (λ w. stored-as g (w .1 .given .1) (elapse-half _ (g .sofar .kept) _ _ _ _ _ _ above (w .4 .ensures) (w .5 .taken) (w .6 .ensures) (w .8 .ensures)) (w .9) (w .10) (w .11) (w .12) (w .13) (w .14))
-    (⊎-elim (λ w. stored-as g (w .1 .given .1) (pass-half _ (g .sofar .kept) _ _ _ _ _ _ above (g .sofar .flag) (w .4 .ensures) (w .5 .left) (w .6 .ensures)) (w .8) (w .9) (w .10) (w .11) (w .12) (w .13))
-    (⊎-elim (λ w. stored-as g (w .1 .given .1) (reset-cycle _ (g .sofar .kept) _ _ _ _ (g .sofar .flag) (w .3 .ensures) (w .4 .taken) (w .6 .ensures)) (w .7) (w .8) (w .9) (w .10) (w .11) (w .12))
-    (⊎-elim (λ w. stored-as g (w .1 .given .1) (reset-other _ (g .sofar .kept) _ _ _ (g .sofar .flag) (w .3 .ensures) (w .4 .left)) (w .5) (w .6) (w .7) (w .8) (w .9) (w .10))
-    (⊎-elim (λ w. stored-as g (w .1 .given .1) (set-absent _ (g .sofar .kept) _ _ _ above (g .sofar .flag) _ _ _ (w .3 .ensures) (w .4 .taken)) (w .5) (w .6) (w .7) (w .8) (w .9) (w .10))
-    (⊎-elim (λ w. stored-as g (w .1 .given .1) (set-half _ (g .sofar .kept) _ _ (w .3 .ensures) (w .4 .left) _ _ _ _ _ (w .6 .ensures) above (g .sofar .flag)) (w .8) (w .9) (w .10) (w .11) (w .12) (w .13))
-    (⊎-elim (λ w. stored-as g (w .1 .given .1) (band-absent _ (g .sofar .kept) _ _ _ above (g .sofar .flag) _ _ _ _ (w .3 .ensures) (w .4 .taken)) (w .5) (w .6) (w .7) (w .8) (w .9) (w .10))
-    (⊎-elim (λ w. stored-as g (w .1 .given .1) (band-half _ (g .sofar .kept) _ _ _ _ _ _ _ _ _ _ _ above (g .sofar .flag) (w .3 .ensures) (w .4 .left) (w .6 .ensures) (w .8 .ensures) (w .10 .ensures)) (w .11) (w .12) (w .13) (w .14) (w .15) (w .16))
-    (⊎-elim (λ w. stored-as g (w .1 .given .1) (geometry-half _ (g .sofar .kept) _ _ _ _ _ _ _ _ above (g .sofar .flag) (w .4 .ensures) (w .6 .ensures)) (w .7) (w .8) (w .9) (w .10) (w .11) (w .12))
-    (λ w. stored-as g (w .1 .given .1) (transfer-half _ (g .sofar .kept) _ _ _ _ _ _ _ _ _ above (g .sofar .flag) (w .4 .ensures) (w .5 .ensures) (w .7 .ensures)) (w .8) (w .9) (w .10) (w .11) (w .12) (w .13))))))))))))
+    ⊎-elim (λ w. stored-as refl (sensor-stored _ (g .sofar .kept) _ _ _ _ (next-says g (c .before .before .before .change-of .ensures) (w .1 .given .1)) _ _ (w .4 .ensures) _ _ above (g .sofar .flag)) (w .6) (w .7) (w .8) (w .9) (w .10) (w .11))
+    (⊎-elim (λ w. let q = next-says g (c .before .before .before .change-of .ensures) (w .1 .given .1) in stored-as (q .1) (row-stored _ (g .sofar .kept) _ _ _ _ _ _ _ _ _ _ above (g .sofar .flag) (q .0) (w .4 .ensures) (w .6 .ensures) (w .8 .ensures)) (w .9) (w .10) (w .11) (w .12) (w .13) (w .14))
+    (⊎-elim (λ w. stored-as (next-says g (c .before .before .before .change-of .ensures) (w .1 .given .1)) (stops-stored _ (g .sofar .kept) _ _ _ _ _ _ above (w .4 .ensures) (w .5 .taken) (w .6 .ensures) (w .8 .ensures)) (w .9) (w .10) (w .11) (w .12) (w .13) (w .14))
+    (⊎-elim (λ w. stored-as (next-says g (c .before .before .before .change-of .ensures) (w .1 .given .1)) (pass-stored _ (g .sofar .kept) _ _ _ _ _ _ above (g .sofar .flag) (w .4 .ensures) (w .5 .left) (w .6 .ensures)) (w .8) (w .9) (w .10) (w .11) (w .12) (w .13))
+    (⊎-elim (λ w. stored-as (next-says g (c .before .before .before .change-of .ensures) (w .1 .given .1)) (cycle-stored _ (g .sofar .kept) _ _ (g .sofar .flag) (w .3 .ensures)) (w .4) (w .5) (w .6) (w .7) (w .8) (w .9))
+    (⊎-elim (λ w. stored-as (next-says g (c .before .before .before .change-of .ensures) (w .1 .given .1)) (spans-stored _ (g .sofar .kept) _ _ _ _ _ _ _ _ above (g .sofar .flag) (w .4 .ensures) (w .6 .ensures)) (w .7) (w .8) (w .9) (w .10) (w .11) (w .12))
+    (⊎-elim (λ w. stored-as (next-says g (c .before .before .before .change-of .ensures) (w .1 .given .1)) (transfer-stored _ (g .sofar .kept) _ _ _ _ _ _ _ above (g .sofar .flag) (w .5 .ensures)) (w .6) (w .7) (w .8) (w .9) (w .10) (w .11))
+    (λ w. stored-as refl (nothing-stored _ (g .sofar .kept) _ _ _ (next-says g (c .before .before .before .change-of .ensures) (w .1 .given .1)) _ _ (g .sofar .flag) (w .3 .ensures)) (w .4) (w .5) (w .6) (w .7) (w .8) (w .9))))))))
     (c .before .before .match2 .came) in
-    ⊎-elim (λ w. let l = stored-long (g .sofar .kept) h in run-again g (closed-ran l h (w .2 .ensures) (w .3 .inv) (w .4 .left)) (closed-flag l h (w .2 .ensures) (w .3 .inv) (w .4 .left)) (w .5) (w .6))
-    (λ w. run-again g (half-idle h (c .before .both .ensures) (w .0 .left)) (h .flag) (w .1) (w .2))
-    (c .if6 .came)
+    ⊎-elim (λ w. let l = stored-long (g .sofar .kept) h in run-again g (finished-ran l h (w .2 .ensures) (w .3 .inv) (w .4 .left)) (finished-flag l h (w .2 .ensures) (w .3 .inv) (w .4 .left)) (w .5) (w .6))
+    (λ w. run-again g (stored-idle h (c .before .both .ensures) (w .0 .left)) (h .flag) (w .1) (w .2))
+    (c .if2 .came)
 
 same-length-3 : tie.Need-same-length-3 Inv-loop2 μ-loop2 Inv-loop μ-loop
 same-length-3 c = search needs
@@ -268,55 +244,48 @@ run-settled-spec =
     same-length
     same-length-2
     returns
-    enum-known-kind-2
-    no-row-requires
+    change-of-requires
+    enum-known-change
     mul-one
     element-copy-out-one
-    read-requires
+    on-sensor-requires
     mul-new
     element-set-from-new
-    enum-known-kind-3
+    enum-known-change-2
+    conditions-requires
+    mul-one-2
+    element-copy-out-one-2
+    on-row-requires
+    mul-new-2
+    element-set-from-new-2
+    either-requires
+    enum-known-change-3
     by-stops-requires
     cast-elapse
     elapse-requires
     byte-requires
     pass-requires
-    enum-known-kind-4
-    reset-number-requires
+    enum-told-2
     power-cycle-all-requires
-    enum-known-kind-5
-    no-row-requires-2
-    mul-one-2
-    element-copy-out-one-2
-    set-requires
-    mul-new-2
-    element-set-from-new-2
-    enum-known-kind-6
-    no-row-requires-3
-    conditions-requires
-    mul-one-3
-    element-copy-out-one-3
-    form-requires
-    mul-new-3
-    element-set-from-new-3
-    either-requires
-    enum-known-kind-7
+    enum-known-change-4
     place-requires
     number-requires
-    enum-known-kind-8
-    side-requires
-    closed-sides-requires
+    enum-known-change-5
     transfer-number-requires
+    enum-known-change-6
+    is-reset-requires
     both-requires
     conditions-requires-2
     loop2-holds
     mul-row
     element-copy-out-row
     lockable-requires
+    mul-one-3
+    element-copy-out-one-3
     locks-requires
     lock-requires
-    mul-new-4
-    element-set-from-new-4
+    mul-new-3
+    element-set-from-new-3
     add-j
     loop2-less
     loop2-again

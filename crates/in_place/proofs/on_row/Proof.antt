@@ -1,10 +1,10 @@
 use Rattle.in_place.proofs.Parts.{forms}
 use borrow.Author.Needs.{needs}
-use Rattle.in_place.proofs.form.Statement.{statement}
-use Rattle.in_place.proofs.form.Tie as tie
+use Rattle.in_place.proofs.on_row.Statement.{statement}
+use Rattle.in_place.proofs.on_row.Tie as tie
 
-tokens-at-requires : tie.Need-tokens-at-requires
-tokens-at-requires c κs = search needs
+part-at-requires : tie.Need-part-at-requires
+part-at-requires c κs = search needs
 
 set-requires : tie.Need-set-requires
 set-requires c κs = search needs
@@ -21,11 +21,11 @@ lockable-requires c κs = search needs
 returns : tie.Need-returns
 returns c = search forms
 
-pub form-spec : {M : Type 1} → statement M
-form-spec =
+pub on-row-spec : {M : Type 1} → statement M
+on-row-spec =
     tie.close
     (tie.spec
-    tokens-at-requires
+    part-at-requires
     set-requires
     settle-requires
     number-requires

@@ -1,0 +1,131 @@
+-- What the change of an event says of the event, on every drive.
+use mathlib.Core.Path.{_≡_, refl, sym, ap, _∙_, subst}
+use Prim.Native.Nat.{ℕ, _*_, _^_, _<_}
+use native.Mathlib.Omega.{arith}
+use mathlib.Core.Bool.{Bool, true, false, not, cond}
+use mathlib.Core.List.{List}
+use lib.Dec.{eqb, ltb}
+use borrow.Author.Needs.{scaled-fits}
+use borrow.Author.Tests.{eqb-true}
+use mir.Val.{Fits}
+use mir.Syntax.{w64}
+use Rattle.base.specs.Rows.{isRow, modify}
+use Rattle.base.proofs.Rows.{row-is}
+use Rattle.sensor.specs.declared.columns.SensorEvent.{SensorEvent}
+use Rattle.sensor.specs.declared.columns.SensorEvent.the-variants as S
+use Rattle.sensor.specs.Columns.{sensorAnswer, sensorAfter}
+use Rattle.sensor.proofs.Refused.{event-refused}
+use Rattle.drive.specs.declared.Drive.{Drive}
+use Rattle.drive.specs.declared.Kind.{Kind}
+use Rattle.drive.specs.declared.Kind.the-variants as K
+use Rattle.drive.specs.Events.{Event, reading, elapse, reset, sensorSet, bandSet, geometry, transfer, eventOf, elapsedStops, answerOf, actOf}
+use Rattle.drive.specs.State.{withSensors}
+use Rattle.drive.proofs.Answers as A
+use Rattle.in_place.specs.declared.Change.{Change}
+use Rattle.in_place.specs.declared.Change.the-variants as C
+use Rattle.in_place.specs.Changes.{noReset, sensorChange, rowChange, resetChange, changeOf}
+use Rattle.in_place.specs.Parts.{SettledSixteen}
+use Rattle.in_place.proofs.Storing.{OnSensor, OnNothing, on-absent, on-reset}
+
+-- the place of a row that is there
+place : (count i : ℕ) → isRow count i ≡ true → i < 16
+place count i e = row-is count i e .1
+
+-- ---- what a change says of an event
+
+abbrev pub Says : Drive → List ℕ → Event → Change → Type 0
+Says d bytes e (C.OneSensor j event) = OnSensor d e j (sensorAnswer event) (sensorAfter event)
+Says d bytes e (C.OneRow j c) = (isRow (d .«band_count») j ≡ true) × (e ≡ bandSet j c bytes)
+Says d bytes e (C.Elapse n) = e ≡ elapse n
+Says d bytes e C.PowerCycle = e ≡ reset 0
+Says d bytes e (C.Spans b start n) = e ≡ geometry b start n
+Says d bytes e (C.Transfer w start n) = e ≡ transfer w start n
+Says d bytes e (C.Nothing n t) = OnNothing d e n t
+
+module _ (d : Drive) (k : SettledSixteen d) (bytes : List ℕ) where
+  -- an event on the sensor s: the drive's answer is the sensor's, and so is what it stores
+  on-event : (e : Event) (s : ℕ) (x : SensorEvent) → isRow (d .«sensor_count») s ≡ true → sensorAnswer x ≡ answerOf d e → elapsedStops d e ≡ 0
+      → withSensors (modify (sensorAfter x) s (d .sensors)) d ≡ actOf d e → OnSensor d e s (sensorAnswer x) (sensorAfter x)
+  on-event e s x r a z c = record { there = place (d .«sensor_count») s r; answer = a; stops = z; act = c; stays = λ one q. event-refused x one q }
+
+  says : (kind : Kind) → Says d bytes (eventOf kind bytes) (changeOf (d .«sensor_count») (d .«band_count») kind)
+  unfolding changeOf actOf
+  says (K.Reading s v) = go (isRow (d .«sensor_count») s) refl
+    where
+      go : (b : Bool) → isRow (d .«sensor_count») s ≡ b → Says d bytes (reading s v) (cond b (C.OneSensor s (S.Reading v)) (C.Nothing 1 noReset))
+      go true e = on-event (reading s v) s (S.Reading v) e (A.reading-answered d s false (sym (ap not e)) v refl) refl refl
+      go false e = on-absent d (reading s v) k (A.no-sensor-reading d s true (sym (ap not e)) v refl)
+  says (K.SensorSet s c) = go (isRow (d .«sensor_count») s) refl
+    where
+      go : (b : Bool) → isRow (d .«sensor_count») s ≡ b → Says d bytes (sensorSet s c) (cond b (C.OneSensor s (S.Set c)) (C.Nothing 1 noReset))
+      go true e = on-event (sensorSet s c) s (S.Set c) e (A.set-answered d s false (sym (ap not e)) c refl) refl refl
+      go false e = on-absent d (sensorSet s c) k (A.no-sensor-set d s true (sym (ap not e)) c refl)
+  says (K.BandSet b c) = go (isRow (d .«band_count») b) refl
+    where
+      go : (x : Bool) → isRow (d .«band_count») b ≡ x → Says d bytes (bandSet b c bytes) (cond x (C.OneRow b c) (C.Nothing 1 noReset))
+      go true e = (e, refl)
+      go false e = on-absent d (bandSet b c bytes) k (A.no-band d b c bytes true (sym (ap not e)) refl)
+  says (K.Reset t) = go (eqb t 0) refl
+    where
+      go : (b : Bool) → eqb t 0 ≡ b → Says d bytes (reset t) (cond b C.PowerCycle (C.Nothing (cond (ltb 2 t) 2 0) t))
+      go true e = ap reset (eqb-true t 0 e)
+      go false e = on-reset d k t e
+  says (K.Elapse n) = refl
+  says (K.Geometry b start n) = refl
+  says (K.Transfer w start n) = refl
+
+-- by the change that the code took
+pub says-as : (d : Drive) → SettledSixteen d → (bytes : List ℕ) (kind : Kind) (t c : Change) → t ≡ changeOf (d .«sensor_count») (d .«band_count») kind → t ≡ c → Says d bytes (eventOf kind bytes) c
+says-as d k bytes kind t c p q = subst (Says d bytes (eventOf kind bytes)) (sym p ∙ q) (says d k bytes kind)
+
+-- ---- the place of what is changed
+
+unfoldable Placed : Change → Type 0
+Placed (C.OneSensor j event) = j < 16
+Placed (C.OneRow j c) = j < 16
+Placed (C.Elapse n) = 0 < 16
+Placed C.PowerCycle = 0 < 16
+Placed (C.Spans b start n) = 0 < 16
+Placed (C.Transfer w start n) = 0 < 16
+Placed (C.Nothing n t) = 0 < 16
+
+placed : (sensors bands : ℕ) (kind : Kind) → Placed (changeOf sensors bands kind)
+unfolding changeOf Placed
+placed sensors bands (K.Reading s v) = go (isRow sensors s) refl
+  where
+    go : (b : Bool) → isRow sensors s ≡ b → Placed (cond b (C.OneSensor s (S.Reading v)) (C.Nothing 1 noReset))
+    go true e = place sensors s e
+    go false e = omega arith
+placed sensors bands (K.SensorSet s c) = go (isRow sensors s) refl
+  where
+    go : (b : Bool) → isRow sensors s ≡ b → Placed (cond b (C.OneSensor s (S.Set c)) (C.Nothing 1 noReset))
+    go true e = place sensors s e
+    go false e = omega arith
+placed sensors bands (K.BandSet b c) = go (isRow bands b) refl
+  where
+    go : (x : Bool) → isRow bands b ≡ x → Placed (cond x (C.OneRow b c) (C.Nothing 1 noReset))
+    go true e = place bands b e
+    go false e = omega arith
+placed sensors bands (K.Reset t) = go (eqb t 0)
+  where
+    go : (b : Bool) → Placed (cond b C.PowerCycle (C.Nothing (cond (ltb 2 t) 2 0) t))
+    go true = omega arith
+    go false = omega arith
+placed sensors bands (K.Elapse n) = omega arith
+placed sensors bands (K.Geometry b start n) = omega arith
+placed sensors bands (K.Transfer w start n) = omega arith
+
+module _ (sensors bands : ℕ) (kind : Kind) (t : Change) (p : t ≡ changeOf sensors bands kind) (j : ℕ) where
+  pub sensor-place : (event : SensorEvent) → t ≡ C.OneSensor j event → j < 16
+  unfolding Placed
+  sensor-place event q = subst Placed (sym p ∙ q) (placed sensors bands kind)
+
+  pub sensor-scaled : (event : SensorEvent) (m : ℕ) → t ≡ C.OneSensor j event → 16 * m < 2 ^ 63 → Fits w64 (j * m)
+  sensor-scaled event m q h = scaled-fits j 16 m (sensor-place event q) h
+
+  pub row-placed : (c : _) → t ≡ C.OneRow j c → j < 16
+  unfolding Placed
+  row-placed c q = subst Placed (sym p ∙ q) (placed sensors bands kind)
+
+  pub row-scaled : (c : _) (m : ℕ) → t ≡ C.OneRow j c → 16 * m < 2 ^ 63 → Fits w64 (j * m)
+  row-scaled c m q h = scaled-fits j 16 m (row-placed c q) h

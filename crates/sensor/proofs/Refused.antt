@@ -1,0 +1,32 @@
+-- "Any refusal leaves the drive .. untouched": a reading or a Set that is refused leaves the sensor as it was.
+use mathlib.Core.Path.{_≡_, refl}
+use Prim.Native.Nat.{ℕ}
+use mathlib.Core.Bool.{Bool, true, false, not, cond, true≢false}
+use lib.Dec.{eqb, ltb}
+use Rattle.sensor.specs.declared.single.Sensor.{Sensor}
+use Rattle.sensor.specs.declared.columns.SensorColumns.{SensorColumns}
+use Rattle.sensor.specs.declared.columns.SensorEvent.{SensorEvent}
+use Rattle.sensor.specs.declared.columns.SensorEvent.the-variants as E
+use Rattle.sensor.specs.Level.{greatestReading}
+use Rattle.sensor.specs.Single.{judgeOf, turnedTo, readingAnswer, readingOf}
+use Rattle.sensor.specs.Columns.{columnsFit, storedOf, switchedOf, setAnswer, setOf, sensorAnswer, sensorAfter}
+
+reading-refused : (v : ℕ) (s : Sensor) → eqb (readingAnswer v) 0 ≡ false → readingOf v s ≡ s
+unfolding readingOf
+reading-refused v s e = go (ltb greatestReading v) e
+  where
+    go : (b : Bool) → eqb (cond b 2 0) 0 ≡ false → cond b s (turnedTo (judgeOf v s) s) ≡ s
+    go true e = refl
+    go false e = absurd (true≢false e)
+
+set-refused : (c : SensorColumns) (s : Sensor) → eqb (setAnswer c) 0 ≡ false → setOf c s ≡ s
+unfolding setOf
+set-refused c s e = go (columnsFit c) e
+  where
+    go : (b : Bool) → eqb (cond (not b) 2 0) 0 ≡ false → cond b (switchedOf c (storedOf c s)) s ≡ s
+    go true e = absurd (true≢false e)
+    go false e = refl
+
+pub event-refused : (x : SensorEvent) (s : Sensor) → eqb (sensorAnswer x) 0 ≡ false → sensorAfter x s ≡ s
+event-refused (E.Reading v) s e = reading-refused v s e
+event-refused (E.Set c) s e = set-refused c s e
