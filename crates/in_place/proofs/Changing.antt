@@ -23,7 +23,7 @@ use Rattle.drive.specs.State.{withSensors}
 use Rattle.drive.proofs.Answers as A
 use Rattle.in_place.specs.declared.Change.{Change}
 use Rattle.in_place.specs.declared.Change.the-variants as C
-use Rattle.in_place.specs.Changes.{noReset, sensorChange, rowChange, resetChange, changeOf}
+use Rattle.in_place.specs.Parts.{noReset, sensorChange, rowChange, resetChange, changeOf}
 use Rattle.in_place.specs.Parts.{SettledSixteen}
 use Rattle.in_place.proofs.Storing.{OnSensor, OnNothing, on-absent, on-reset}
 

@@ -42,7 +42,7 @@ use Rattle.sensor.specs.declared.columns.SensorEvent.{SensorEvent}
 use Rattle.sensor.specs.declared.columns.SensorEvent.the-variants as S
 use Rattle.in_place.specs.declared.Change.{Change}
 use Rattle.in_place.specs.declared.Change.the-variants as C
-use Rattle.in_place.specs.Changes.{noReset, sensorChange, rowChange, resetChange, changeOf}
+use Rattle.in_place.specs.Parts.{noReset, sensorChange, rowChange, resetChange, changeOf}
 use Rattle.in_place.specs.declared.SensorAfter.{SensorAfter}
 use Rattle.in_place.specs.declared.RowAfter.{RowAfter}
 use Rattle.in_place.specs.declared.SensorsAfter.{SensorsAfter}

@@ -22,7 +22,7 @@ use Rattle.script.specs.declared.EventRead.the-variants as R
 use Rattle.script.specs.Fields.{Parsed, event, broken, parsedIn, tokensAt, eventAt}
 use Rattle.in_place.specs.declared.Change.{Change}
 use Rattle.in_place.specs.FirstEvents.{thenMore, firstEvents, after, eventsRun, freshOf, firstEventsRun}
-use Rattle.in_place.specs.Changes.{changeOf}
+use Rattle.in_place.specs.Parts.{changeOf}
 use Rattle.in_place.specs.Parts.{SettledSixteen}
 use Rattle.base.proofs.Lists.{few-counted}
 use Rattle.in_place.proofs.Sixteen.{step-kept}

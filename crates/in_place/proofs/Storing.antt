@@ -49,7 +49,7 @@ use Rattle.row_set.specs.Forming.{rowAnswer, SetsRow}
 use Rattle.in_place.specs.declared.SensorAfter.{SensorAfter}
 use Rattle.in_place.specs.declared.RowAfter.{RowAfter}
 use Rattle.in_place.specs.declared.SensorsAfter.{SensorsAfter}
-use Rattle.in_place.specs.Changes.{noReset}
+use Rattle.in_place.specs.Parts.{noReset}
 use Rattle.in_place.specs.Parts.{SettledSixteen, LeavesSensor, LeavesRow, byStops, LeavesSensors}
 use Rattle.in_place.proofs.Sixteen.{step-kept}
 

@@ -1,3 +1,2 @@
 pub mod FirstEvents
-pub mod Changes
 pub mod Parts

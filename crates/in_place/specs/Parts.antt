@@ -1,19 +1,22 @@
 -- What the run keeps of its drive, and what it takes from its parts: one sensor's events, a Set of one row, and an elapse of the sensors alone.
+use Rattle.sensor.specs.declared.columns.SensorEvent.the-variants as S
+use Rattle.drive.specs.declared.Kind.the-variants as K
+use Rattle.in_place.specs.declared.Change.the-variants as C
 use Prim.Native.Nat.{ℕ}
 use mathlib.Core.Path.{_≡_}
 use mathlib.Core.Bool.{Bool, false, not, cond, _&&_, Bool·beq}
 use mathlib.Core.List.{List, map}
-use lib.Dec.{ltb}
+use lib.Dec.{ltb, eqb}
 use lib.ListN.{length}
 use Rattle.base.specs.Lists.{any}
-use Rattle.base.specs.Ticks.{ticks, stops}
+use Rattle.base.specs.Ticks.{mostTicks, ticks, stops}
 use Rattle.answer.specs.Numbers.{numberOf}
 use Rattle.sensor.specs.declared.single.Sensor.{Sensor}
 use Rattle.sensor.specs.Single.{sensorTick, endsNext}
 use Rattle.sensors.specs.Parts.{quietTicks}
 use Rattle.band.specs.declared.Row.{Row}
 use Rattle.band.specs.declared.BandColumns.{BandColumns}
-use Rattle.band.specs.Rows.{settleRow}
+use Rattle.band.specs.Rows.{settleRow, lastResetType}
 use Rattle.band.specs.Parts.{isLockable}
 use Rattle.drive.specs.declared.Drive.{Drive}
 use Rattle.drive.specs.State.{settleOf}
@@ -22,6 +25,10 @@ use Rattle.row_set.specs.Forming.{SetsRow}
 use Rattle.in_place.specs.declared.SensorAfter.{SensorAfter}
 use Rattle.in_place.specs.declared.RowAfter.{RowAfter}
 use Rattle.in_place.specs.declared.SensorsAfter.{SensorsAfter}
+use Rattle.base.specs.Rows.{isRow}
+use Rattle.sensor.specs.declared.columns.SensorEvent.{SensorEvent}
+use Rattle.drive.specs.declared.Kind.{Kind}
+use Rattle.in_place.specs.declared.Change.{Change}
 
 -- sixteen rows and sensors, and bands that are settled
 pub record SettledSixteen (d : Drive) : Type 0 where
@@ -43,9 +50,9 @@ pub record LeavesRow (conditions : List Bool) (columns : BandColumns) (bytes : L
   pub row-is : r .row ≡ settleRow conditions (reply .row)
   pub lockable-is : r .lockable ≡ isLockable (r .row)
 
--- "2 out of range": an elapse has at most 4,294,967,295 ticks
+-- "2 out of range" of an elapse
 abbrev pub tooManyTicks : ℕ → Bool
-tooManyTicks n = ltb 4294967295 n
+tooManyTicks n = ltb mostTicks n
 
 -- a timer ends in an elapse while a row may be lockable
 unfoldable pub byStops : Bool → ℕ → List Sensor → Bool
@@ -56,3 +63,30 @@ pub record LeavesSensors (n : ℕ) (l : List Sensor) (r : SensorsAfter) : Type 0
   pub number-is : r .number ≡ cond (tooManyTicks n) 2 0
   pub sensors-are : r .sensors ≡ cond (tooManyTicks n) l (ticks (map sensorTick) n l)
   pub stops-are : r .stops ≡ cond (tooManyTicks n) 0 (stops (map sensorTick) (any endsNext) n l)
+
+-- ---- what an event changes of a drive: one sensor, one row, the sensors, the spans or nothing
+
+-- a reset type that is in no set
+abbrev pub noReset : ℕ
+noReset = 255
+
+-- "1 no row"
+abbrev pub sensorChange : ℕ → ℕ → SensorEvent → Change
+sensorChange count sensor event = cond (isRow count sensor) (C.OneSensor sensor event) (C.Nothing 1 noReset)
+
+abbrev pub rowChange : ℕ → ℕ → BandColumns → Change
+rowChange count band columns = cond (isRow count band) (C.OneRow band columns) (C.Nothing 1 noReset)
+
+-- "2 out of range"
+abbrev pub resetChange : ℕ → Change
+resetChange type = cond (eqb type 0) C.PowerCycle (C.Nothing (cond (ltb lastResetType type) 2 0) type)
+
+-- an event on a row that is not there changes nothing
+unfoldable pub changeOf : ℕ → ℕ → Kind → Change
+changeOf sensors bands (K.Reading s v) = sensorChange sensors s (S.Reading v)
+changeOf sensors bands (K.Elapse n) = C.Elapse n
+changeOf sensors bands (K.Reset t) = resetChange t
+changeOf sensors bands (K.SensorSet s c) = sensorChange sensors s (S.Set c)
+changeOf sensors bands (K.BandSet b c) = rowChange bands b c
+changeOf sensors bands (K.Geometry b start n) = C.Spans b start n
+changeOf sensors bands (K.Transfer w start n) = C.Transfer w start n

@@ -13,7 +13,7 @@ ghost use Rattle.geometry.specs.Events.{transferAnswer};
 ghost use Rattle.drive.specs.Events.{sideOf};
 ghost use Rattle.script.specs.Fields.{tokensAt};
 ghost use Rattle.in_place.specs.FirstEvents.{after, eventsRun, firstEvents, freshOf, firstEventsRun};
-ghost use Rattle.in_place.specs.Changes.{noReset, sensorChange, rowChange, resetChange, changeOf};
+ghost use Rattle.in_place.specs.Parts.{noReset, sensorChange, rowChange, resetChange, changeOf};
 ghost use Rattle.in_place.specs.Parts.{SettledSixteen, LeavesSensor, LeavesRow, byStops, LeavesSensors};
 use band::BandColumns;
 use band::Row;

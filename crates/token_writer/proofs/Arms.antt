@@ -9,7 +9,7 @@ use lib.ListN.{length, take}
 use lib.Seq.{length-take-le, take-all}
 use borrow.Author.Tests.{lt-ltb, le-ltb, not-true, not-false}
 use Rattle.base.specs.Spliced.{spliced}
-use Rattle.base.proofs.Cases.{cond-true, cond-false}
+use Rattle.base.proofs.Cases.{cond-true, cond-false, behind, absent}
 use Rattle.base.proofs.Spliced.{splice-twice}
 use Rattle.answer.specs.declared.Answer.{Answer}
 use Rattle.answer.specs.declared.Answer.the-variants.{Done, OutOfRange, TooLong, ShortBuffer}
@@ -82,21 +82,21 @@ refuses codes out a e q =
 module _ (codes out : List ℕ) (t : Bool) (p : t ≡ codesFit codes) where
   pub write-unfit : not t ≡ true → Writes codes out (refusal OutOfRange) out
   unfolding writeAnswer
-  write-unfit e = refuses codes out OutOfRange refl (cond-false (codesFit codes) _ 2 2 (sym p ∙ not-true t e) refl)
+  write-unfit e = refuses codes out OutOfRange refl (absent (codesFit codes) _ _ 2 (sym p ∙ not-true t e) refl)
 
   module _ (e : not t ≡ false) where
     pub write-long : 32 < length codes → Writes codes out (refusal TooLong) out
     unfolding writeAnswer
     write-long h =
         refuses codes out TooLong refl
-        (cond-true (codesFit codes) _ 2 4 (fit-told codes t p e) (cond-true (ltb 32 (length codes)) 4 _ 4 (lt-ltb 32 (length codes) h) refl))
+        (behind (codesFit codes) _ _ 2 (fit-told codes t p e) (cond-true (ltb 32 (length codes)) 4 _ 4 (lt-ltb 32 (length codes) h) refl))
 
     module _ (n : ℕ) (k : length codes ≤ 32) (q : n ≡ neededFor (elementsOf codes)) where
       -- the answer is left to the output's length
       by-length : (a : ℕ) → a ≡ cond (ltb (length out) (length (bytesOf (elementsOf codes)))) 11 0 → a ≡ writeAnswer codes (length out)
       unfolding writeAnswer
       by-length a w =
-          cond-true (codesFit codes) _ 2 a (fit-told codes t p e) (cond-false (ltb 32 (length codes)) 4 _ a (le-ltb 32 (length codes) k) w)
+          behind (codesFit codes) a _ 2 (fit-told codes t p e) (cond-false (ltb 32 (length codes)) 4 _ a (le-ltb 32 (length codes) k) w)
 
       pub write-short : length out < n → Writes codes out (refusal ShortBuffer) out
       write-short h =

@@ -2,10 +2,11 @@
 -- (else 4). It fills exactly the bytes needed from the start of the output."
 use Prim.Native.Nat.{ℕ, _+_, _-_, _/_, _%_}
 use mathlib.Core.Path.{_≡_}
-use mathlib.Core.Bool.{Bool, true, cond, _&&_}
+use mathlib.Core.Bool.{Bool, true, not, cond, _&&_}
 use mathlib.Core.List.{List, [], _∷_, _++_, map}
 use lib.Dec.{eqb, leb, ltb}
 use lib.ListN.{length}
+use Rattle.base.specs.Refusals.{Refusal, when, firstOf}
 use Rattle.base.specs.Spliced.{spliced}
 use Rattle.answer.specs.Numbers.{numberOf}
 use Rattle.expression.specs.declared.Part.{Part}
@@ -53,10 +54,16 @@ unfoldable pub neededFor : List Element → ℕ
 neededFor [] = 2
 neededFor (e ∷ es) = widthOf (e .part) + neededFor es
 
--- 2, then 4, then 11 ("the token writer's output is shorter than needed")
+-- 2 "out of range", 4 "too long", and 11 "short buffer: the token writer's output is shorter than needed"
+abbrev pub writeRefusals : List ℕ → ℕ → List Refusal
+writeRefusals codes room =
+    when 2 (not (codesFit codes))
+    ∷ when 4 (ltb mostElements (length codes))
+    ∷ when 11 (ltb room (length (bytesOf (elementsOf codes))))
+    ∷ []
+
 unfoldable pub writeAnswer : List ℕ → ℕ → ℕ
-writeAnswer codes room =
-    cond (codesFit codes) (cond (ltb mostElements (length codes)) 4 (cond (ltb room (length (bytesOf (elementsOf codes)))) 11 0)) 2
+writeAnswer codes room = firstOf (writeRefusals codes room)
 
 -- by the answer's number: the bytes from the start of the output and the rest as it was, or all as it was
 abbrev pub outputAfter : ℕ → List ℕ → List ℕ → List ℕ
