@@ -1,18 +1,17 @@
 -- What the change of an event says of the event, on every drive.
 use mathlib.Core.Path.{_≡_, refl, sym, ap, _∙_, subst}
-use Prim.Native.Nat.{ℕ, _*_, _^_, _<_}
+use Prim.Native.Nat.{ℕ, _*_, _^_, _<_, _≤_}
 use native.Mathlib.Omega.{arith}
 use mathlib.Core.Bool.{Bool, true, false, not, cond}
 use mathlib.Core.List.{List}
 use lib.Dec.{eqb, ltb}
 use borrow.Author.Needs.{scaled-fits}
-use borrow.Author.Tests.{eqb-true}
+use borrow.Author.Tests.{eqb-true, ltb-true, ltb-false}
 use mir.Val.{Fits}
 use mir.Syntax.{w64}
 use Rattle.base.specs.Rows.{isRow}
-use Rattle.answer.specs.declared.Answer.the-variants.{NoRow}
+use Rattle.answer.specs.declared.Answer.the-variants.{NoRow, OutOfRange}
 use Rattle.sensor.specs.Single.{readingAnswer}
-use Rattle.sensor.specs.Columns.{setAnswer}
 use Rattle.sensor.specs.Columns.{columnsFit as sensorColumnsFit}
 use Rattle.sensor.proofs.Refused.{reading-refused, set-refused}
 use Rattle.drive.specs.declared.Drive.{Drive}
@@ -20,14 +19,14 @@ use Rattle.drive.specs.declared.Kind.{Kind}
 use Rattle.drive.specs.declared.Kind.the-variants as K
 use Rattle.drive.specs.Events.{Event, reading, elapse, reset, sensorSet, bandSet, geometry, transfer, eventOf, answerOf, actOf}
 use Rattle.events.specs.Steps.{refused}
-use Rattle.events.proofs.Arms.{row-place, behind, cond-not, no-sensor-reading, no-sensor-set, no-band}
+use Rattle.events.proofs.Arms.{row-place, elapse-refused, behind, cond-not, no-sensor-reading, no-sensor-set, no-band}
 use Rattle.in_place.specs.declared.SensorEvent.{SensorEvent}
 use Rattle.in_place.specs.declared.SensorEvent.the-variants as S
 use Rattle.in_place.specs.declared.Change.{Change}
 use Rattle.in_place.specs.declared.Change.the-variants as C
-use Rattle.in_place.specs.Changes.{sensorAnswer, sensorRule, noReset, sensorChange, rowChange, resetChange, changeOf}
+use Rattle.in_place.specs.Changes.{sensorAnswer, sensorRule, noReset, changeOf}
 use Rattle.in_place.specs.Parts.{SettledSixteen}
-use Rattle.in_place.proofs.Storing.{OnSensor, OnNothing, on-absent, on-reset}
+use Rattle.in_place.proofs.Storing.{OnSensor, OnNothing, on-refused, on-reset}
 
 -- the place of a row that is there
 place : (count i : ℕ) → isRow count i ≡ true → i < 16
@@ -38,7 +37,7 @@ place count i e = row-place count i false (sym (ap not e)) refl
 abbrev pub Says : Drive → List ℕ → Event → Change → Type 0
 Says d bytes e (C.OneSensor j event) = OnSensor d e j (sensorAnswer event) (sensorRule event)
 Says d bytes e (C.OneRow j c) = (isRow (d .«band_count») j ≡ true) × (e ≡ bandSet j c bytes)
-Says d bytes e (C.Elapse n) = e ≡ elapse n
+Says d bytes e (C.Elapse n) = (n ≤ 4294967295) × (e ≡ elapse n)
 Says d bytes e C.PowerCycle = e ≡ reset 0
 Says d bytes e (C.Spans b start n) = e ≡ geometry b start n
 Says d bytes e (C.Transfer w start n) = e ≡ transfer w start n
@@ -71,23 +70,27 @@ module _ (d : Drive) (k : SettledSixteen d) (bytes : List ℕ) where
     where
       go : (b : Bool) → isRow (d .«sensor_count») s ≡ b → Says d bytes (reading s v) (cond b (C.OneSensor s (S.Reading v)) (C.Nothing 1 noReset))
       go true e = on-reading s v e
-      go false e = on-absent d (reading s v) k (no-sensor-reading d s v true (refused NoRow d) (sym (ap not e)) refl refl)
+      go false e = on-refused d (reading s v) NoRow k (no-sensor-reading d s v true (refused NoRow d) (sym (ap not e)) refl refl)
   says (K.SensorSet s c) = go (isRow (d .«sensor_count») s) refl
     where
       go : (b : Bool) → isRow (d .«sensor_count») s ≡ b → Says d bytes (sensorSet s c) (cond b (C.OneSensor s (S.Set c)) (C.Nothing 1 noReset))
       go true e = on-set s c e
-      go false e = on-absent d (sensorSet s c) k (no-sensor-set d s c true (refused NoRow d) (sym (ap not e)) refl refl)
+      go false e = on-refused d (sensorSet s c) NoRow k (no-sensor-set d s c true (refused NoRow d) (sym (ap not e)) refl refl)
   says (K.BandSet b c) = go (isRow (d .«band_count») b) refl
     where
       go : (x : Bool) → isRow (d .«band_count») b ≡ x → Says d bytes (bandSet b c bytes) (cond x (C.OneRow b c) (C.Nothing 1 noReset))
       go true e = (e, refl)
-      go false e = on-absent d (bandSet b c bytes) k (no-band d b c bytes true (refused NoRow d) (sym (ap not e)) refl refl)
+      go false e = on-refused d (bandSet b c bytes) NoRow k (no-band d b c bytes true (refused NoRow d) (sym (ap not e)) refl refl)
   says (K.Reset t) = go (eqb t 0) refl
     where
       go : (b : Bool) → eqb t 0 ≡ b → Says d bytes (reset t) (cond b C.PowerCycle (C.Nothing (cond (ltb 2 t) 2 0) t))
       go true e = ap reset (eqb-true t 0 e)
       go false e = on-reset d k t e
-  says (K.Elapse n) = refl
+  says (K.Elapse n) = go (ltb 4294967295 n) refl
+    where
+      go : (b : Bool) → ltb 4294967295 n ≡ b → Says d bytes (elapse n) (cond b (C.Nothing 2 noReset) (C.Elapse n))
+      go true e = on-refused d (elapse n) OutOfRange k (elapse-refused d n (refused OutOfRange d) (ltb-true 4294967295 n e) refl)
+      go false e = (ltb-false 4294967295 n e, refl)
   says (K.Geometry b start n) = refl
   says (K.Transfer w start n) = refl
 
@@ -128,7 +131,11 @@ placed sensors bands (K.Reset t) = go (eqb t 0)
     go : (b : Bool) → Placed (cond b C.PowerCycle (C.Nothing (cond (ltb 2 t) 2 0) t))
     go true = omega arith
     go false = omega arith
-placed sensors bands (K.Elapse n) = omega arith
+placed sensors bands (K.Elapse n) = go (ltb 4294967295 n)
+  where
+    go : (b : Bool) → Placed (cond b (C.Nothing 2 noReset) (C.Elapse n))
+    go true = omega arith
+    go false = omega arith
 placed sensors bands (K.Geometry b start n) = omega arith
 placed sensors bands (K.Transfer w start n) = omega arith
 

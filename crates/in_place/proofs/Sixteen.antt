@@ -51,9 +51,9 @@ act-sixteen d (bandSet b c bytes) h = record { rows = modify-length _ b (d .rows
 act-sixteen d (geometry b start n) h = record { rows = h .rows; sensors = h .sensors }
 act-sixteen d (transfer w start n) h = h
 
-pub step-kept : (d : Drive) (e : Event) → SettledSixteen d → SettledSixteen (stepOf d e)
+pub step-sixteen : (d : Drive) (e : Event) → SettledSixteen d → SettledSixteen (stepOf d e)
 unfolding stepOf
-step-kept d e k = go (eqb (answerOf d e) 0)
+step-sixteen d e k = go (eqb (answerOf d e) 0)
   where
     go : (b : Bool) → SettledSixteen (cond b (settleOf (actOf d e)) d)
     go true =
@@ -67,17 +67,17 @@ fresh-shut : any isOpen (replicate 16 freshRow) ≡ false
 unfolding any freshRow
 fresh-shut = refl
 
-fresh-is-kept : (capacity bands sensors : ℕ) → SettledSixteen (freshDrive capacity bands sensors)
+fresh-drive-sixteen : (capacity bands sensors : ℕ) → SettledSixteen (freshDrive capacity bands sensors)
 unfolding freshDrive settleOf
-fresh-is-kept capacity bands sensors = record {
+fresh-drive-sixteen capacity bands sensors = record {
   rows = refl;
   sensors = refl;
   settled = ap (λ (rows : List Row). withRows rows (freshDrive capacity bands sensors)) (settle-shut _ (replicate 16 freshRow) fresh-shut);
 }
 
-pub fresh-kept : (capacity bands sensors : ℕ) (f : Fresh) → Freshens capacity bands sensors f → SettledSixteen (f .drive)
-fresh-kept capacity bands sensors f p = subst SettledSixteen (sym (p .drive)) (go (headerFits capacity bands sensors))
+pub fresh-sixteen : (capacity bands sensors : ℕ) (f : Fresh) → Freshens capacity bands sensors f → SettledSixteen (f .drive)
+fresh-sixteen capacity bands sensors f p = subst SettledSixteen (sym (p .drive)) (go (headerFits capacity bands sensors))
   where
     go : (b : Bool) → SettledSixteen (cond b (freshDrive capacity bands sensors) (freshDrive 1 1 0))
-    go true = fresh-is-kept capacity bands sensors
-    go false = fresh-is-kept 1 1 0
+    go true = fresh-drive-sixteen capacity bands sensors
+    go false = fresh-drive-sixteen 1 1 0

@@ -37,13 +37,17 @@ sensorChange count sensor event = cond (isRow count sensor) (C.OneSensor sensor 
 abbrev pub rowChange : ℕ → ℕ → BandColumns → Change
 rowChange count band columns = cond (isRow count band) (C.OneRow band columns) (C.Nothing 1 noReset)
 
--- "2 out of range": a reset's type is at most 2
+-- "2 out of range": an elapse has at most 4,294,967,295 ticks
+abbrev pub elapseChange : ℕ → Change
+elapseChange ticks = cond (ltb 4294967295 ticks) (C.Nothing 2 noReset) (C.Elapse ticks)
+
+-- and a reset's type is at most 2
 abbrev pub resetChange : ℕ → Change
 resetChange type = cond (eqb type 0) C.PowerCycle (C.Nothing (cond (ltb 2 type) 2 0) type)
 
 unfoldable pub changeOf : ℕ → ℕ → Kind → Change
 changeOf sensors bands (K.Reading s v) = sensorChange sensors s (S.Reading v)
-changeOf sensors bands (K.Elapse n) = C.Elapse n
+changeOf sensors bands (K.Elapse n) = elapseChange n
 changeOf sensors bands (K.Reset t) = resetChange t
 changeOf sensors bands (K.SensorSet s c) = sensorChange sensors s (S.Set c)
 changeOf sensors bands (K.BandSet b c) = rowChange bands b c

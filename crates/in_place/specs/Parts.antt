@@ -1,7 +1,7 @@
 -- What the run keeps of its drive, and what it takes from its parts: one sensor's events, a Set of one row, and an elapse of the sensors alone.
 use Prim.Native.Nat.{ℕ}
 use mathlib.Core.Path.{_≡_}
-use mathlib.Core.Bool.{Bool, false, not, cond, _&&_, Bool·beq}
+use mathlib.Core.Bool.{Bool, not, _&&_, Bool·beq}
 use mathlib.Core.List.{List, map}
 use lib.Dec.{ltb}
 use lib.ListN.{length}
@@ -42,16 +42,11 @@ pub record LeavesRow (conditions : List Bool) (columns : BandColumns) (bytes : L
   pub row-is : r .row ≡ settleRow conditions (reply .row)
   pub lockable-is : r .lockable ≡ isOpen (r .row)
 
--- "2 out of range": an elapse has at most 4,294,967,295 ticks
-abbrev pub tooManyTicks : ℕ → Bool
-tooManyTicks n = ltb 4294967295 n
-
 -- a timer ends in an elapse while a row may be lockable
-unfoldable pub byStops : Bool → ℕ → List Sensor → Bool
-byStops mayBeLockable n l = cond (tooManyTicks n) false (mayBeLockable && ltb (quietTicks n l) n)
+abbrev pub byStops : Bool → ℕ → List Sensor → Bool
+byStops mayBeLockable n l = mayBeLockable && ltb (quietTicks n l) n
 
 -- an elapse of the sensors alone: "n ticks", and "the ticks at which some timer ends"
 pub record LeavesSensors (n : ℕ) (l : List Sensor) (r : SensorsAfter) : Type 0 where
-  pub number-is : r .number ≡ cond (tooManyTicks n) 2 0
-  pub sensors-are : r .sensors ≡ cond (tooManyTicks n) l (ticks (map tickOf) n l)
-  pub stops-are : r .stops ≡ cond (tooManyTicks n) 0 (stops (map tickOf) (any endsNext) n l)
+  pub sensors-are : r .sensors ≡ ticks (map tickOf) n l
+  pub stops-are : r .stops ≡ stops (map tickOf) (any endsNext) n l
