@@ -1,12 +1,12 @@
 -- What the change of an event says of the event, on every drive.
 use mathlib.Core.Path.{_≡_, refl, sym, ap, _∙_, subst}
-use Prim.Native.Nat.{ℕ, _*_, _^_, _<_}
+use Prim.Native.Nat.{ℕ, _*_, _^_, _<_, _≤_}
 use native.Mathlib.Omega.{arith}
 use mathlib.Core.Bool.{Bool, true, false, not, cond}
 use mathlib.Core.List.{List}
 use lib.Dec.{eqb, ltb}
 use borrow.Author.Needs.{scaled-fits}
-use borrow.Author.Tests.{eqb-true}
+use borrow.Author.Tests.{eqb-true, ltb-true, ltb-false}
 use mir.Val.{Fits}
 use mir.Syntax.{w64}
 use Rattle.base.specs.Rows.{isRow, modify}
@@ -23,9 +23,9 @@ use Rattle.drive.specs.State.{withSensors}
 use Rattle.drive.proofs.Answers as A
 use Rattle.in_place.specs.declared.Change.{Change}
 use Rattle.in_place.specs.declared.Change.the-variants as C
-use Rattle.in_place.specs.Parts.{noReset, sensorChange, rowChange, resetChange, changeOf}
+use Rattle.in_place.specs.Parts.{noReset, changeOf}
 use Rattle.in_place.specs.Parts.{SettledSixteen}
-use Rattle.in_place.proofs.Storing.{OnSensor, OnNothing, on-absent, on-reset}
+use Rattle.in_place.proofs.Storing.{OnSensor, OnNothing, on-refused, on-reset}
 
 -- the place of a row that is there
 place : (count i : ℕ) → isRow count i ≡ true → i < 16
@@ -36,7 +36,7 @@ place count i e = row-is count i e .1
 abbrev pub Says : Drive → List ℕ → Event → Change → Type 0
 Says d bytes e (C.OneSensor j event) = OnSensor d e j (sensorAnswer event) (sensorAfter event)
 Says d bytes e (C.OneRow j c) = (isRow (d .«band_count») j ≡ true) × (e ≡ bandSet j c bytes)
-Says d bytes e (C.Elapse n) = e ≡ elapse n
+Says d bytes e (C.Elapse n) = (n ≤ 4294967295) × (e ≡ elapse n)
 Says d bytes e C.PowerCycle = e ≡ reset 0
 Says d bytes e (C.Spans b start n) = e ≡ geometry b start n
 Says d bytes e (C.Transfer w start n) = e ≡ transfer w start n
@@ -54,23 +54,27 @@ module _ (d : Drive) (k : SettledSixteen d) (bytes : List ℕ) where
     where
       go : (b : Bool) → isRow (d .«sensor_count») s ≡ b → Says d bytes (reading s v) (cond b (C.OneSensor s (S.Reading v)) (C.Nothing 1 noReset))
       go true e = on-event (reading s v) s (S.Reading v) e (A.reading-answered d s false (sym (ap not e)) v refl) refl refl
-      go false e = on-absent d (reading s v) k (A.no-sensor-reading d s true (sym (ap not e)) v refl)
+      go false e = on-refused d (reading s v) 1 k (A.no-sensor-reading d s true (sym (ap not e)) v refl) refl
   says (K.SensorSet s c) = go (isRow (d .«sensor_count») s) refl
     where
       go : (b : Bool) → isRow (d .«sensor_count») s ≡ b → Says d bytes (sensorSet s c) (cond b (C.OneSensor s (S.Set c)) (C.Nothing 1 noReset))
       go true e = on-event (sensorSet s c) s (S.Set c) e (A.set-answered d s false (sym (ap not e)) c refl) refl refl
-      go false e = on-absent d (sensorSet s c) k (A.no-sensor-set d s true (sym (ap not e)) c refl)
+      go false e = on-refused d (sensorSet s c) 1 k (A.no-sensor-set d s true (sym (ap not e)) c refl) refl
   says (K.BandSet b c) = go (isRow (d .«band_count») b) refl
     where
       go : (x : Bool) → isRow (d .«band_count») b ≡ x → Says d bytes (bandSet b c bytes) (cond x (C.OneRow b c) (C.Nothing 1 noReset))
       go true e = (e, refl)
-      go false e = on-absent d (bandSet b c bytes) k (A.no-band d b c bytes true (sym (ap not e)) refl)
+      go false e = on-refused d (bandSet b c bytes) 1 k (A.no-band d b c bytes true (sym (ap not e)) refl) refl
   says (K.Reset t) = go (eqb t 0) refl
     where
       go : (b : Bool) → eqb t 0 ≡ b → Says d bytes (reset t) (cond b C.PowerCycle (C.Nothing (cond (ltb 2 t) 2 0) t))
       go true e = ap reset (eqb-true t 0 e)
       go false e = on-reset d k t e
-  says (K.Elapse n) = refl
+  says (K.Elapse n) = go (ltb 4294967295 n) refl
+    where
+      go : (b : Bool) → ltb 4294967295 n ≡ b → Says d bytes (elapse n) (cond b (C.Nothing 2 noReset) (C.Elapse n))
+      go true e = on-refused d (elapse n) 2 k (A.elapse-refused d n (ltb-true 4294967295 n e)) refl
+      go false e = (ltb-false 4294967295 n e, refl)
   says (K.Geometry b start n) = refl
   says (K.Transfer w start n) = refl
 
@@ -111,7 +115,11 @@ placed sensors bands (K.Reset t) = go (eqb t 0)
     go : (b : Bool) → Placed (cond b C.PowerCycle (C.Nothing (cond (ltb 2 t) 2 0) t))
     go true = omega arith
     go false = omega arith
-placed sensors bands (K.Elapse n) = omega arith
+placed sensors bands (K.Elapse n) = go (ltb 4294967295 n)
+  where
+    go : (b : Bool) → Placed (cond b (C.Nothing 2 noReset) (C.Elapse n))
+    go true = omega arith
+    go false = omega arith
 placed sensors bands (K.Geometry b start n) = omega arith
 placed sensors bands (K.Transfer w start n) = omega arith
 

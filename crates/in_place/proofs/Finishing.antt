@@ -21,6 +21,7 @@ use Rattle.in_place.proofs.Storing.{EventRan, EventStored, finishOf}
 
 -- ---- one row
 
+-- a reset of a type, and then settling
 unfoldable pub finishRow : List Bool → ℕ → Row → Row
 finishRow cs t row = settleRow cs (resetRow t row)
 

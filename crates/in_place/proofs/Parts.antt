@@ -1,4 +1,4 @@
--- What the parts' code comes to: one sensor's events, a Set of one row, and an elapse of the sensors alone.
+-- What the parts' code comes to: one sensor's events, a Set of one row, an elapse of the sensors alone, and the change of an event.
 use mathlib.Core.Path.{_≡_, refl, sym, ap, ap₂, _∙_, subst}
 use Prim.Native.Nat.{ℕ, _≤_, _<_}
 use native.Mathlib.Omega.{arith}
@@ -24,7 +24,7 @@ use Rattle.sensor.specs.Columns.{setAnswer, setOf, sensorAnswer, sensorAfter}
 use Rattle.sensors.specs.declared.Passed.{Passed}
 use Rattle.sensors.specs.Sixteen.{Passes}
 use Rattle.sensors.specs.Parts.{quietTicks}
-use Rattle.sensors.proofs.Quiet.{AllQuiet, quietTicks-quiet, sensors-jump}
+use Rattle.sensors.proofs.Quiet.{AllQuiet, quietTicks-le, quietTicks-quiet, sensors-jump}
 use Rattle.band.specs.declared.Row.{Row}
 use Rattle.band.specs.declared.BandColumns.{BandColumns}
 use Rattle.band.specs.declared.Side.{Side}
@@ -42,7 +42,7 @@ use Rattle.sensor.specs.declared.columns.SensorEvent.{SensorEvent}
 use Rattle.sensor.specs.declared.columns.SensorEvent.the-variants as S
 use Rattle.in_place.specs.declared.Change.{Change}
 use Rattle.in_place.specs.declared.Change.the-variants as C
-use Rattle.in_place.specs.Parts.{noReset, sensorChange, rowChange, resetChange, changeOf}
+use Rattle.in_place.specs.Parts.{noReset, sensorChange, rowChange, elapseChange, resetChange, changeOf}
 use Rattle.in_place.specs.declared.SensorAfter.{SensorAfter}
 use Rattle.in_place.specs.declared.RowAfter.{RowAfter}
 use Rattle.in_place.specs.declared.SensorsAfter.{SensorsAfter}
@@ -89,45 +89,23 @@ forms cs c part bytes one r m new a o et h en ea eo er em eq = record {
 -- ---- an elapse
 
 module _ (n : ℕ) (l : List Sensor) where
-  pub stops-long : (o : Bool) → 4294967295 < n → false ≡ byStops o n l
-  unfolding byStops
-  stops-long o h = cond-true (ltb 4294967295 n) _ _ _ (lt-ltb 4294967295 n h) refl
+  pub stops-lockable : (o t : Bool) (q : ℕ) → o ≡ true → q ≡ quietTicks n l → t ≡ ltb q n → t ≡ byStops o n l
+  stops-lockable o t q e eq et = et ∙ ap₂ (λ (b : Bool) (k : ℕ). b && ltb k n) (sym e) eq
 
-  pub stops-open : (o t : Bool) (q : ℕ) → n ≤ 4294967295 → o ≡ true → q ≡ quietTicks n l → t ≡ ltb q n → t ≡ byStops o n l
-  unfolding byStops
-  stops-open o t q h e eq et =
-      cond-false (ltb 4294967295 n) _ _ _ (le-ltb 4294967295 n h)
-      (et ∙ ap₂ (λ (b : Bool) (k : ℕ). b && ltb k n) (sym e) eq)
+  pub stops-none : (o : Bool) → o ≡ false → false ≡ byStops o n l
+  stops-none o e = ap (λ (b : Bool). b && ltb (quietTicks n l) n) (sym e)
 
-  pub stops-steady : (o : Bool) → n ≤ 4294967295 → o ≡ false → false ≡ byStops o n l
-  unfolding byStops
-  stops-steady o h e =
-      cond-false (ltb 4294967295 n) _ _ _ (le-ltb 4294967295 n h) (ap (λ (b : Bool). b && ltb (quietTicks n l) n) (sym e))
-
-  pub pass-long : (r : SensorsAfter) → 4294967295 < n → r .sensors ≡ l → r .number ≡ 2 → r .stops ≡ 0 → LeavesSensors n l r
-  pass-long r h es en ez =
-      let t : ltb 4294967295 n ≡ true = lt-ltb 4294967295 n h in
-      record { number-is = cond-true _ _ _ _ t en; sensors-are = cond-true _ _ _ _ t es; stops-are = cond-true _ _ _ _ t ez }
-
-  pub pass-quiet : (r : SensorsAfter) (q : ℕ) (m : List Sensor) → n ≤ 4294967295 → q ≡ quietTicks n l → q ≡ n → m ≡ map (loweredBy n) l → r .sensors ≡ m → r .number ≡ 0 → r .stops ≡ 0
-      → LeavesSensors n l r
-  pass-quiet r q m h eq eqn em es en ez =
-      let t : ltb 4294967295 n ≡ false = le-ltb 4294967295 n h in
-      let c : AllQuiet n l = subst (λ (k : ℕ). AllQuiet k l) (sym eq ∙ eqn) (quietTicks-quiet n l) in
+  pub pass-quiet : (r : SensorsAfter) (q : ℕ) (m : List Sensor) → q ≡ quietTicks n l → n ≤ q → m ≡ map (loweredBy n) l → r .sensors ≡ m → r .stops ≡ 0 → LeavesSensors n l r
+  pass-quiet r q m eq h em es ez =
+      let en : quietTicks n l ≡ n = omega (arith, eq, h, quietTicks-le n l) in
+      let c : AllQuiet n l = subst (λ (k : ℕ). AllQuiet k l) en (quietTicks-quiet n l) in
       record {
-        number-is = cond-false _ _ _ _ t en;
-        sensors-are = cond-false _ _ _ _ t (es ∙ em ∙ sym (quiet-ticks (map sensorTick) (any endsNext) (λ k l. map (loweredBy k) l) AllQuiet sensors-jump n l c));
-        stops-are = cond-false _ _ _ _ t (ez ∙ sym (quiet-stops (map sensorTick) (any endsNext) (λ k l. map (loweredBy k) l) AllQuiet sensors-jump n l c));
+        sensors-are = es ∙ em ∙ sym (quiet-ticks (map sensorTick) (any endsNext) (λ k l. map (loweredBy k) l) AllQuiet sensors-jump n l c);
+        stops-are = ez ∙ sym (quiet-stops (map sensorTick) (any endsNext) (λ k l. map (loweredBy k) l) AllQuiet sensors-jump n l c);
       }
 
-  pub pass-on : (r : SensorsAfter) (p : Passed) (z : ℕ) → n ≤ 4294967295 → Passes n l p → z ≡ p .stops → r .sensors ≡ p .sensors → r .number ≡ 0 → r .stops ≡ z → LeavesSensors n l r
-  pass-on r p z h w e es en ez =
-      let t : ltb 4294967295 n ≡ false = le-ltb 4294967295 n h in
-      record {
-        number-is = cond-false _ _ _ _ t en;
-        sensors-are = cond-false _ _ _ _ t (es ∙ w .sensors);
-        stops-are = cond-false _ _ _ _ t (ez ∙ e ∙ w .stops);
-      }
+  pub pass-on : (r : SensorsAfter) (p : Passed) (z : ℕ) → Passes n l p → z ≡ p .stops → r .sensors ≡ p .sensors → r .stops ≡ z → LeavesSensors n l r
+  pass-on r p z w e es ez = record { sensors-are = es ∙ w .sensors; stops-are = ez ∙ e ∙ w .stops }
 
 -- the stops fit a byte: there are at most as many as sensors
 pub passes-fits : (l : List Sensor) (n : ℕ) (r : Passed) → Passes n l r → r .stops ≤ length l
@@ -162,6 +140,12 @@ module _ (count i : ℕ) (t : Bool) (p : t ≡ not (isRow count i)) where
   pub one-row : (c : BandColumns) → t ≡ false → C.OneRow i c ≡ rowChange count i c
   one-row c e = cond-true (isRow count i) _ _ _ (row-there count i t p e) refl
 
+pub long-elapse : (n : ℕ) → 4294967295 < n → C.Nothing 2 noReset ≡ elapseChange n
+long-elapse n h = cond-true (ltb 4294967295 n) _ _ _ (lt-ltb 4294967295 n h) refl
+
+pub short-elapse : (n : ℕ) → n ≤ 4294967295 → C.Elapse n ≡ elapseChange n
+short-elapse n h = cond-false (ltb 4294967295 n) _ _ _ (le-ltb 4294967295 n h) refl
+
 pub power-cycle : (t : ℕ) → t ≡ 0 → C.PowerCycle ≡ resetChange t
 power-cycle t e = cond-true (eqb t 0) _ _ _ (eq-eqb t 0 e) refl
 
@@ -173,9 +157,9 @@ module _ (sensors bands : ℕ) (kind : Kind) where
   unfolding changeOf
   change-reading s v r q e = e ∙ ap (changeOf sensors bands) (sym q)
 
-  pub change-elapse : (n : ℕ) → kind ≡ K.Elapse n → C.Elapse n ≡ changeOf sensors bands kind
+  pub change-elapse : (n : ℕ) (r : Change) → kind ≡ K.Elapse n → r ≡ elapseChange n → r ≡ changeOf sensors bands kind
   unfolding changeOf
-  change-elapse n q = ap (changeOf sensors bands) (sym q)
+  change-elapse n r q e = e ∙ ap (changeOf sensors bands) (sym q)
 
   pub change-reset : (t : ℕ) (r : Change) → kind ≡ K.Reset t → r ≡ resetChange t → r ≡ changeOf sensors bands kind
   unfolding changeOf

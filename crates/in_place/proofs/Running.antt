@@ -25,7 +25,7 @@ use Rattle.in_place.specs.FirstEvents.{thenMore, firstEvents, after, eve
 use Rattle.in_place.specs.Parts.{changeOf}
 use Rattle.in_place.specs.Parts.{SettledSixteen}
 use Rattle.base.proofs.Lists.{few-counted}
-use Rattle.in_place.proofs.Sixteen.{step-kept}
+use Rattle.in_place.proofs.Sixteen.{step-sixteen}
 use Rattle.in_place.proofs.Storing.{EventRan, EventStored, finishOf}
 use Rattle.in_place.proofs.Changing.{Says, says-as}
 
@@ -151,7 +151,7 @@ stored-as ee h ey eo ea ez ed et = rw (ee, ey, eo, ea, ez, ed, et) h
 pub stored-long : {d : Drive} {e : Event} {a z : ℕ} {y : Drive} {o due : Bool} {t : ℕ} → SettledSixteen d → EventStored d e a z y o due t → length (y .rows) ≡ 16
 unfolding finishOf settleOf
 stored-long {d = d} {e = e} {y = y} {t = t} k h =
-    sym (length-map (y .rows) (resetRow t)) ∙ sym (length-map (map (resetRow t) (y .rows)) _) ∙ ap (λ (x : Drive). length (x .rows)) (h .whole) ∙ step-kept d e k .rows
+    sym (length-map (y .rows) (resetRow t)) ∙ sym (length-map (map (resetRow t) (y .rows)) _) ∙ ap (λ (x : Drive). length (x .rows)) (h .whole) ∙ step-sixteen d e k .rows
 
 -- the event run, by the names that the drive and the flag have where the ways meet
 pub run-again : {s : List ℕ} {start count : ℕ} {fresh : Drive} {answers₀ stops₀ : List ℕ} {d : Drive} {answers stops : List ℕ} {at i : ℕ} {o : Bool} {k : Kind} {b c n : ℕ} {a z : ℕ} {x x' : Drive}
@@ -164,7 +164,7 @@ run-again {s = s} {count = count} {fresh = fresh} {answers₀ = answers₀} {sto
   ran = rw (drive-is, answers-are, stops-are);
   long = simp length-set (g .sofar .long);
   wide = simp length-set (g .sofar .wide);
-  kept = subst SettledSixteen (sym (v .drive)) (step-kept d e (g .sofar .kept));
+  kept = subst SettledSixteen (sym (v .drive)) (step-sixteen d e (g .sofar .kept));
   flag = f;
 })
   where

@@ -21,8 +21,9 @@ use Rattle.drive.proofs.Keeping.{step-keeps}
 use Rattle.drive.proofs.Settling.{step-settled}
 use Rattle.in_place.specs.Parts.{SettledSixteen}
 
-pub step-kept : (d : Drive) (e : Event) → SettledSixteen d → SettledSixteen (stepOf d e)
-step-kept d e k = record { rows = step-keeps d e .rows ∙ k .rows; sensors = step-keeps d e .sensors ∙ k .sensors; settled = step-settled d e (k .settled) }
+pub step-sixteen : (d : Drive) (e : Event) → SettledSixteen d → SettledSixteen (stepOf d e)
+step-sixteen d e k =
+    record { rows = step-keeps d e .rows ∙ k .rows; sensors = step-keeps d e .sensors ∙ k .sensors; settled = step-settled d e (k .settled) }
 
 -- ---- the fresh drive
 
@@ -30,17 +31,17 @@ fresh-steady : any isLockable (replicate 16 freshRow) ≡ false
 unfolding any freshRow
 fresh-steady = refl
 
-fresh-is-kept : (capacity bands sensors : ℕ) → SettledSixteen (freshDrive capacity bands sensors)
+fresh-drive-sixteen : (capacity bands sensors : ℕ) → SettledSixteen (freshDrive capacity bands sensors)
 unfolding freshDrive settleOf
-fresh-is-kept capacity bands sensors = record {
+fresh-drive-sixteen capacity bands sensors = record {
   rows = refl;
   sensors = refl;
   settled = ap (λ (rows : List Row). withRows rows (freshDrive capacity bands sensors)) (settle-steady _ (replicate 16 freshRow) fresh-steady);
 }
 
-pub fresh-kept : (capacity bands sensors : ℕ) (f : Fresh) → Freshens capacity bands sensors f → SettledSixteen (f .drive)
-fresh-kept capacity bands sensors f p = subst SettledSixteen (sym (p .drive)) (go (headerFits capacity bands sensors))
+pub fresh-sixteen : (capacity bands sensors : ℕ) (f : Fresh) → Freshens capacity bands sensors f → SettledSixteen (f .drive)
+fresh-sixteen capacity bands sensors f p = subst SettledSixteen (sym (p .drive)) (go (headerFits capacity bands sensors))
   where
     go : (b : Bool) → SettledSixteen (cond b (freshDrive capacity bands sensors) (freshDrive 1 1 0))
-    go true = fresh-is-kept capacity bands sensors
-    go false = fresh-is-kept 1 1 0
+    go true = fresh-drive-sixteen capacity bands sensors
+    go false = fresh-drive-sixteen 1 1 0

@@ -4,7 +4,6 @@ use Prim.Native.Nat.{ℕ, zero, suc, _+_, _<_, _≤_}
 use native.Mathlib.Omega.{arith}
 use mathlib.Core.Bool.{Bool, true, false, not, cond, _&&_, _||_, Bool·beq, true≢false}
 use mathlib.Core.List.{List, [], _∷_, map}
-use mathlib.Core.Logic.{_≢_}
 use lib.Dec.{eqb, ltb}
 use lib.ListN.{length, getD, set}
 use borrow.Author.Tests.{le-ltb, ltb-false, ltb-true, eqb-true, ne-eqb}
@@ -24,7 +23,6 @@ use Rattle.sensor.specs.Single.{sensorTick}
 use Rattle.sensors.specs.Sixteen.{conditionsBelow}
 use Rattle.sensors.specs.Parts.{quietTicks}
 use Rattle.sensors.proofs.Quiet.{AllQuiet, quietTicks-le, quietTicks-quiet, sensors-jump}
-use Rattle.band.specs.declared.Side.{Side}
 use Rattle.band.specs.declared.Row.{Row}
 use Rattle.band.specs.declared.BandColumns.{BandColumns}
 use Rattle.band.specs.Rows.{freshRow, closedOn, settleRow, inSet, resetRow}
@@ -51,7 +49,7 @@ use Rattle.in_place.specs.declared.RowAfter.{RowAfter}
 use Rattle.in_place.specs.declared.SensorsAfter.{SensorsAfter}
 use Rattle.in_place.specs.Parts.{noReset}
 use Rattle.in_place.specs.Parts.{SettledSixteen, LeavesSensor, LeavesRow, byStops, LeavesSensors}
-use Rattle.in_place.proofs.Sixteen.{step-kept}
+use Rattle.in_place.proofs.Sixteen.{step-sixteen}
 
 -- an event run: the two bytes written for it, and the drive that it left
 pub record EventRan (d : Drive) (e : Event) (a z : ℕ) (x : Drive) : Type 0 where
@@ -89,7 +87,7 @@ finish-steady t y e =
     ∙ ap (λ (rows : List Row). withRows rows y) (settle-steady (conditionsOf y) (y .rows) e)
 
 -- An event stored: its two bytes; and the drive that is what the event makes of it once a reset of type t and settling have locked the rows.
--- Nothing is to lock where that is not due, or where no row may be open.
+-- Nothing is to lock where that is not due, or where no row may be lockable.
 pub record EventStored (d : Drive) (e : Event) (a z : ℕ) (y : Drive) (mayBeLockable due : Bool) (t : ℕ) : Type 0 where
   pub answer : a ≡ answerOf d e
   pub stops : z ≡ stopsOf d e
@@ -100,7 +98,7 @@ pub record EventStored (d : Drive) (e : Event) (a z : ℕ) (y : Drive) (mayBeLoc
 -- an event whose drive is settled already
 settled-stored : (d : Drive) (e : Event) (a z : ℕ) (y : Drive) (o due : Bool) (t : ℕ) → SettledSixteen d → 2 < t → EventRan d e a z y → (o ≡ false → any isLockable (y .rows) ≡ false) → EventStored d e a z y o due t
 settled-stored d e a z y o due t k h r f =
-    let w : finishOf t y ≡ y = finish-none t y h ∙ ap settleOf (r .drive) ∙ step-kept d e k .settled ∙ sym (r .drive) in
+    let w : finishOf t y ≡ y = finish-none t y h ∙ ap settleOf (r .drive) ∙ step-sixteen d e k .settled ∙ sym (r .drive) in
     record { answer = r .answer; stops = r .stops; whole = w ∙ r .drive; calm = λ _. w; flag = f }
 
 -- nothing is to lock
@@ -203,10 +201,10 @@ nothing-stored d k e n t p o due fl ed = record { answer = p .answer; stops = p 
     go true e q = finish-none t d (let h = eqb-true t noReset e in omega (arith, h)) ∙ k .settled
     go false e q = absurd (true≢false q)
 
--- a refusal for a row that is not there
-pub on-absent : (d : Drive) (e : Event) → SettledSixteen d → 1 ≡ answerOf d e → OnNothing d e 1 noReset
-on-absent d e k p =
-    let r = refusal d e 1 p refl in
+-- a refusal
+pub on-refused : (d : Drive) (e : Event) (n : ℕ) → SettledSixteen d → n ≡ answerOf d e → eqb n 0 ≡ false → OnNothing d e n noReset
+on-refused d e n k p z =
+    let r = refusal d e n p z in
     record { answer = r .answer; stops = r .stops; whole = finish-none noReset d (omega arith) ∙ k .settled ∙ r .drive }
 
 -- ---- elapse
@@ -226,27 +224,14 @@ elapsed d n z x s h ez ex = record {
     done : eqb (answerOf d (elapse n)) 0 ≡ true
     done = ap (λ (m : ℕ). eqb m 0) (sym zero-answer)
 
--- what the test for stops tells
-stops-told : (o : Bool) (n : ℕ) (l : List Sensor) → byStops o n l ≡ true → (o ≡ true) × (n ≤ 4294967295)
-unfolding byStops
-stops-told o n l e = go o (ltb 4294967295 n) refl e
-  where
-    go : (x b : Bool) → ltb 4294967295 n ≡ b → cond b false (x && ltb (quietTicks n l) n) ≡ true → (x ≡ true) × (n ≤ 4294967295)
-    go true false h q = (refl, ltb-false 4294967295 n h)
-    go false false h q = absurd (true≢false (sym q))
-    go x true h q = absurd (true≢false (sym q))
-
-pub stops-short : (o : Bool) (n : ℕ) (l : List Sensor) (t : Bool) → t ≡ byStops o n l → t ≡ true → n ≤ 4294967295
-stops-short o n l t p e = stops-told o n l (sym p ∙ e) .1
-
 -- from stop to stop, with the bands settled at each
-pub stops-stored : (d : Drive) (k : SettledSixteen d) (n z : ℕ) (r : Elapsed) (o t : Bool) (w : ℕ) → 2 < w → t ≡ byStops o n (d .sensors) → t ≡ true → Elapses n d r → z ≡ r .stops
+pub stops-stored : (d : Drive) (k : SettledSixteen d) (n z : ℕ) (r : Elapsed) (o t : Bool) (w : ℕ) → 2 < w → n ≤ 4294967295 → t ≡ byStops o n (d .sensors) → t ≡ true → Elapses n d r → z ≡ r .stops
     → EventStored d (elapse n) 0 z (r .drive) o true w
-stops-stored d k n z r o t w g p e h ez =
-    let q = stops-told o n (d .sensors) (sym p ∙ e) in
-    settled-stored d (elapse n) 0 z (r .drive) o true w k g (elapsed d n z (r .drive) (k .settled) (q .1) (ez ∙ h .stops) (h .drive)) (λ f. absurd (true≢false (sym (q .0) ∙ f)))
+stops-stored d k n z r o t w g b p e h ez =
+    settled-stored d (elapse n) 0 z (r .drive) o true w k g (elapsed d n z (r .drive) (k .settled) b (ez ∙ h .stops) (h .drive))
+    (λ f. absurd (true≢false (sym e ∙ p ∙ ap (λ (x : Bool). x && ltb (quietTicks n (d .sensors)) n) f)))
 
--- no row is open: the sensors alone pass
+-- no row is lockable: the sensors alone pass
 module _ (d : Drive) (o : any isLockable (d .rows) ≡ false) where
   steady-tick : (l : List Sensor) → tickOf (withSensors l d) ≡ withSensors (map sensorTick l) d
   unfolding tickOf
@@ -264,50 +249,32 @@ module _ (d : Drive) (o : any isLockable (d .rows) ≡ false) where
       ap (λ (m : ℕ). oneIf (any endsNext l) + m)
       (ap (λ (x : Drive). stopsIn tickOf stopNext n x) (steady-tick l) ∙ steady-stops n (map sensorTick l))
 
--- the sensors alone: no row is open, or no timer ends
-pub pass-stored : (d : Drive) (k : SettledSixteen d) (n : ℕ) (r : SensorsAfter) (o t due : Bool) (w : ℕ) → 2 < w → (o ≡ false → any isLockable (d .rows) ≡ false) → t ≡ byStops o n (d .sensors) → t ≡ false → LeavesSensors n (d .sensors) r
-    → EventStored d (elapse n) (r .number) (r .stops) (withSensors (r .sensors) d) o due w
-unfolding byStops jumpOf
-pass-stored d k n r o t due w g fl p e h = go o (ltb 4294967295 n) refl refl
+-- the sensors alone: no row is lockable, or no timer ends
+pub pass-stored : (d : Drive) (k : SettledSixteen d) (n : ℕ) (r : SensorsAfter) (o t due : Bool) (w : ℕ) → 2 < w → (o ≡ false → any isLockable (d .rows) ≡ false) → n ≤ 4294967295 → t ≡ byStops o n (d .sensors) → t ≡ false
+    → LeavesSensors n (d .sensors) r → EventStored d (elapse n) 0 (r .stops) (withSensors (r .sensors) d) o due w
+unfolding jumpOf
+pass-stored d k n r o t due w g fl b p e h = settled-stored d (elapse n) 0 (r .stops) (withSensors (r .sensors) d) o due w k g (go o refl) fl
   where
-    from : (y : Drive) → EventRan d (elapse n) (r .number) (r .stops) y → y ≡ withSensors (r .sensors) d → EventStored d (elapse n) (r .number) (r .stops) (withSensors (r .sensors) d) o due w
-    from y v q = settled-stored d (elapse n) (r .number) (r .stops) (withSensors (r .sensors) d) o due w k g (rw (← q) v) fl
-
-    number-in : (b : Bool) → ltb 4294967295 n ≡ b → r .number ≡ cond b 2 0
-    number-in b q = h .number-is ∙ ap (λ (x : Bool). cond x 2 0) q
-
-    sensors-in : (b : Bool) → ltb 4294967295 n ≡ b → r .sensors ≡ cond b (d .sensors) (ticks (map sensorTick) n (d .sensors))
-    sensors-in b q = h .sensors-are ∙ ap (λ (x : Bool). cond x (d .sensors) (ticks (map sensorTick) n (d .sensors))) q
-
-    stops-in : (b : Bool) → ltb 4294967295 n ≡ b → r .stops ≡ cond b 0 (stopsIn (map sensorTick) (any endsNext) n (d .sensors))
-    stops-in b q = h .stops-are ∙ ap (λ (x : Bool). cond x 0 (stopsIn (map sensorTick) (any endsNext) n (d .sensors))) q
-
     -- the sensors' ticks are the drive's
-    alone : n ≤ 4294967295 → ltb 4294967295 n ≡ false → withSensors (ticks (map sensorTick) n (d .sensors)) d ≡ ticks tickOf n d
-        → stopsIn (map sensorTick) (any endsNext) n (d .sensors) ≡ stopsIn tickOf stopNext n d → EventStored d (elapse n) (r .number) (r .stops) (withSensors (r .sensors) d) o due w
-    alone b q ex ez =
-        from (withSensors (r .sensors) d)
-        (rw (number-in false q) (elapsed d n (r .stops) (withSensors (r .sensors) d) (k .settled) b (stops-in false q ∙ ez) (ap (λ (l : List Sensor). withSensors l d) (sensors-in false q) ∙ ex)))
-        refl
+    alone : withSensors (ticks (map sensorTick) n (d .sensors)) d ≡ ticks tickOf n d → stopsIn (map sensorTick) (any endsNext) n (d .sensors) ≡ stopsIn tickOf stopNext n d
+        → EventRan d (elapse n) 0 (r .stops) (withSensors (r .sensors) d)
+    alone ex ez =
+        elapsed d n (r .stops) (withSensors (r .sensors) d) (k .settled) b (h .stops-are ∙ ez)
+        (ap (λ (l : List Sensor). withSensors l d) (h .sensors-are) ∙ ex)
 
-    quiet : quietTicks n (d .sensors) ≡ n → ltb 4294967295 n ≡ false → EventStored d (elapse n) (r .number) (r .stops) (withSensors (r .sensors) d) o due w
-    quiet en q =
+    quiet : quietTicks n (d .sensors) ≡ n → EventRan d (elapse n) 0 (r .stops) (withSensors (r .sensors) d)
+    quiet en =
         let a : AllQuiet n (d .sensors) = subst (λ (m : ℕ). AllQuiet m (d .sensors)) en (quietTicks-quiet n (d .sensors)) in
         let c : Calm n d = record { settled = k .settled; timers = a } in
-        alone (ltb-false 4294967295 n q) q
+        alone
         (ap (λ (l : List Sensor). withSensors l d) (quiet-ticks (map sensorTick) (any endsNext) (λ k l. map (loweredBy k) l) AllQuiet sensors-jump n (d .sensors) a) ∙ sym (quiet-ticks tickOf stopNext jumpOf Calm drive-jumps n d c))
         (quiet-stops (map sensorTick) (any endsNext) (λ k l. map (loweredBy k) l) AllQuiet sensors-jump n (d .sensors) a ∙ sym (quiet-stops tickOf stopNext jumpOf Calm drive-jumps n d c))
 
-    go : (x b : Bool) → o ≡ x → ltb 4294967295 n ≡ b → EventStored d (elapse n) (r .number) (r .stops) (withSensors (r .sensors) d) o due w
-    go x true eo q =
-        from d (rw (number-in true q, stops-in true q) (refusal d (elapse n) 2 (A.elapse-refused d n (ltb-true 4294967295 n q)) refl))
-        (ap (λ (l : List Sensor). withSensors l d) (sym (sensors-in true q)))
-    go false false eo q =
-        let c = fl eo in
-        alone (ltb-false 4294967295 n q) q (sym (steady-ticks d c n (d .sensors))) (sym (steady-stops d c n (d .sensors)))
-    go true false eo q =
-        let f : ltb (quietTicks n (d .sensors)) n ≡ false = sym (ap₂ (λ (b x : Bool). cond b false (x && ltb (quietTicks n (d .sensors)) n)) q eo) ∙ sym p ∙ e in
-        quiet (omega (arith, quietTicks-le n (d .sensors), ltb-false (quietTicks n (d .sensors)) n f)) q
+    go : (x : Bool) → o ≡ x → EventRan d (elapse n) 0 (r .stops) (withSensors (r .sensors) d)
+    go false eo = let c = fl eo in alone (sym (steady-ticks d c n (d .sensors))) (sym (steady-stops d c n (d .sensors)))
+    go true eo =
+        let f : ltb (quietTicks n (d .sensors)) n ≡ false = sym (ap (λ (x : Bool). x && ltb (quietTicks n (d .sensors)) n) eo) ∙ sym p ∙ e in
+        quiet (omega (arith, quietTicks-le n (d .sensors), ltb-false (quietTicks n (d .sensors)) n f))
 
 -- ---- reset
 
@@ -347,7 +314,7 @@ on-reset d k t z =
     let h = reset-stored d k t (d .sensors) (cond (ltb 2 t) 2 0) true (λ q. absurd (true≢false q)) refl (cond-false (eqb t 0) _ _ _ z refl) in
     record { answer = h .answer; stops = h .stops; whole = h .whole }
 
--- ---- band Set
+-- ---- a Set of one row
 
 map-set : {A : Type 0} (f : A → A) (l : List A) (i : ℕ) (v : A) → map f (set l i v) ≡ set (map f l) i (f v)
 map-set f [] i v = refl
@@ -414,7 +381,7 @@ set-steady (row ∷ rows) (suc i) v e f =
     let h = neither (isLockable row) (any isLockable rows) e in
     ap₂ (λ (a b : Bool). a || b) (h .0) (set-steady rows i v (h .1) f)
 
--- with the flag: it is set where the new row is open
+-- with the flag: it is set where the new row is lockable
 pub row-stored : (d : Drive) (k : SettledSixteen d) (b : ℕ) (c : BandColumns) (bytes : List ℕ) (y : Row) (cs : List Bool) (m : RowAfter) (o o' due : Bool) (w : ℕ)
     → 2 < w → (o ≡ false → any isLockable (d .rows) ≡ false) → isRow (d .«band_count») b ≡ true → cs ≡ conditionsBelow (d .«sensor_count») (d .sensors)
     → LeavesRow cs c bytes (getD (d .rows) b y) m → o' ≡ (o || m .lockable) → EventStored d (bandSet b c bytes) (m .number) 0 (withRows (set (d .rows) b (m .row)) d) o' due w

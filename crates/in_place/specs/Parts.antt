@@ -4,12 +4,12 @@ use Rattle.drive.specs.declared.Kind.the-variants as K
 use Rattle.in_place.specs.declared.Change.the-variants as C
 use Prim.Native.Nat.{ℕ}
 use mathlib.Core.Path.{_≡_}
-use mathlib.Core.Bool.{Bool, false, not, cond, _&&_, Bool·beq}
+use mathlib.Core.Bool.{Bool, not, _&&_, Bool·beq, cond}
 use mathlib.Core.List.{List, map}
 use lib.Dec.{ltb, eqb}
 use lib.ListN.{length}
 use Rattle.base.specs.Lists.{any}
-use Rattle.base.specs.Ticks.{mostTicks, ticks, stops}
+use Rattle.base.specs.Ticks.{ticks, stops, mostTicks}
 use Rattle.answer.specs.Numbers.{numberOf}
 use Rattle.sensor.specs.declared.single.Sensor.{Sensor}
 use Rattle.sensor.specs.Single.{sensorTick, endsNext}
@@ -50,19 +50,14 @@ pub record LeavesRow (conditions : List Bool) (columns : BandColumns) (bytes : L
   pub row-is : r .row ≡ settleRow conditions (reply .row)
   pub lockable-is : r .lockable ≡ isLockable (r .row)
 
--- "2 out of range" of an elapse
-abbrev pub tooManyTicks : ℕ → Bool
-tooManyTicks n = ltb mostTicks n
-
 -- a timer ends in an elapse while a row may be lockable
-unfoldable pub byStops : Bool → ℕ → List Sensor → Bool
-byStops mayBeLockable n l = cond (tooManyTicks n) false (mayBeLockable && ltb (quietTicks n l) n)
+abbrev pub byStops : Bool → ℕ → List Sensor → Bool
+byStops mayBeLockable n l = mayBeLockable && ltb (quietTicks n l) n
 
 -- an elapse of the sensors alone: "n ticks", and "the ticks at which some timer ends"
 pub record LeavesSensors (n : ℕ) (l : List Sensor) (r : SensorsAfter) : Type 0 where
-  pub number-is : r .number ≡ cond (tooManyTicks n) 2 0
-  pub sensors-are : r .sensors ≡ cond (tooManyTicks n) l (ticks (map sensorTick) n l)
-  pub stops-are : r .stops ≡ cond (tooManyTicks n) 0 (stops (map sensorTick) (any endsNext) n l)
+  pub sensors-are : r .sensors ≡ ticks (map sensorTick) n l
+  pub stops-are : r .stops ≡ stops (map sensorTick) (any endsNext) n l
 
 -- ---- what an event changes of a drive: one sensor, one row, the sensors, the spans or nothing
 
@@ -78,13 +73,17 @@ abbrev pub rowChange : ℕ → ℕ → BandColumns → Change
 rowChange count band columns = cond (isRow count band) (C.OneRow band columns) (C.Nothing 1 noReset)
 
 -- "2 out of range"
+abbrev pub elapseChange : ℕ → Change
+elapseChange ticks = cond (ltb mostTicks ticks) (C.Nothing 2 noReset) (C.Elapse ticks)
+
+-- and a reset's type is at most 2
 abbrev pub resetChange : ℕ → Change
 resetChange type = cond (eqb type 0) C.PowerCycle (C.Nothing (cond (ltb lastResetType type) 2 0) type)
 
--- an event on a row that is not there changes nothing
+-- an event that is refused for its row or its range changes nothing
 unfoldable pub changeOf : ℕ → ℕ → Kind → Change
 changeOf sensors bands (K.Reading s v) = sensorChange sensors s (S.Reading v)
-changeOf sensors bands (K.Elapse n) = C.Elapse n
+changeOf sensors bands (K.Elapse n) = elapseChange n
 changeOf sensors bands (K.Reset t) = resetChange t
 changeOf sensors bands (K.SensorSet s c) = sensorChange sensors s (S.Set c)
 changeOf sensors bands (K.BandSet b c) = rowChange bands b c

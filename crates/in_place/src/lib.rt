@@ -13,7 +13,7 @@ ghost use Rattle.geometry.specs.Events.{transferAnswer};
 ghost use Rattle.drive.specs.Events.{sideOf};
 ghost use Rattle.script.specs.Fields.{tokensAt};
 ghost use Rattle.in_place.specs.FirstEvents.{after, eventsRun, firstEvents, freshOf, firstEventsRun};
-ghost use Rattle.in_place.specs.Parts.{noReset, sensorChange, rowChange, resetChange, changeOf};
+ghost use Rattle.in_place.specs.Parts.{noReset, sensorChange, rowChange, elapseChange, resetChange, changeOf};
 ghost use Rattle.in_place.specs.Parts.{SettledSixteen, LeavesSensor, LeavesRow, byStops, LeavesSensors};
 use band::BandColumns;
 use band::Row;
@@ -39,7 +39,7 @@ enum Change {
     },
     // the sensors, or the whole drive
     Elapse {
-        ticks: u64,
+        ticks: u32,
     },
     // the sensors
     PowerCycle,
@@ -75,10 +75,9 @@ struct RowAfter {
     lockable: bool,
 }
 
-// What an elapse makes of the sensors alone, the answer's number, and the stops as a byte.
+// What an elapse makes of the sensors alone, and the stops as a byte.
 struct SensorsAfter {
     sensors: [Sensor; 16],
-    number: u8,
     stops: u8,
 }
 
@@ -152,45 +151,31 @@ fn byte(stops: u64, sensors: [Sensor; 16]) -> u8
 }
 
 // Whether an elapse goes from stop to stop with the bands settled at each: a timer ends in it while a row may be lockable.
-fn by_stops(any_lockable: bool, all: [Sensor; 16], ticks: u64) -> bool
+fn by_stops(any_lockable: bool, all: [Sensor; 16], ticks: u32) -> bool
     ensures { λ r. ⌜ r ≡ byStops «any_lockable» ticks all ⌝ }
 {
-    if elapse::MOST_TICKS < ticks {
-        return false;
-    }
     if any_lockable {
-        let n = ticks as u32;
-        return sensors::quiet_ticks(all, n) < n;
+        return sensors::quiet_ticks(all, ticks) < ticks;
     }
     false
 }
 
 // An elapse of the sensors alone.
-fn pass(all: [Sensor; 16], ticks: u64) -> SensorsAfter
+fn pass(all: [Sensor; 16], ticks: u32) -> SensorsAfter
     ensures { λ r. ⌜ LeavesSensors ticks all r ⌝ }
 {
-    if elapse::MOST_TICKS < ticks {
-        return SensorsAfter {
-            sensors: all,
-            number: 2,
-            stops: 0,
-        };
-    }
-    let n = ticks as u32;
-    if sensors::quiet_ticks(all, n) == n {
-        let after = sensors::lower_all(all, n);
+    if sensors::quiet_ticks(all, ticks) < ticks {
+        let passed = sensors::pass_all(all, ticks);
+        let after = passed.sensors;
         return SensorsAfter {
             sensors: after,
-            number: 0,
-            stops: 0,
+            stops: byte(passed.stops, all),
         };
     }
-    let passed = sensors::pass_all(all, n);
-    let after = passed.sensors;
+    let after = sensors::lower_all(all, ticks);
     SensorsAfter {
         sensors: after,
-        number: 0,
-        stops: byte(passed.stops, all),
+        stops: 0,
     }
 }
 
@@ -233,6 +218,20 @@ fn row_change(count: usize, band: u64, columns: BandColumns) -> Change
     }
 }
 
+// The change of an elapse: none where it has too many ticks.
+fn elapse_change(ticks: u64) -> Change
+    ensures { λ r. ⌜ r ≡ elapseChange ticks ⌝ }
+{
+    if elapse::MOST_TICKS < ticks {
+        return Change::Nothing {
+            number: 2,
+            reset_type: NO_RESET,
+        };
+    }
+    let n = ticks as u32;
+    Change::Elapse { ticks: n }
+}
+
 // The change of a reset: of the sensors where it is a power cycle.
 fn reset_change(reset_type: u64) -> Change
     ensures { λ r. ⌜ r ≡ resetChange «reset_type» ⌝ }
@@ -254,7 +253,7 @@ fn change_of(kind: Kind, sensor_count: usize, band_count: usize) -> Change
         Kind::Reading { sensor, value } => {
             sensor_change(sensor_count, sensor, SensorEvent::Reading { value })
         }
-        Kind::Elapse { ticks } => Change::Elapse { ticks },
+        Kind::Elapse { ticks } => elapse_change(ticks),
         Kind::Reset { reset_type } => reset_change(reset_type),
         Kind::SensorSet { sensor, columns } => {
             sensor_change(sensor_count, sensor, SensorEvent::Set { columns })
@@ -365,7 +364,7 @@ fn run_settled(
             Change::Elapse { ticks } => {
                 let all = drive.sensors;
                 if by_stops(any_lockable, all, ticks) {
-                    let elapsed = elapse::elapse(drive, ticks as u32);
+                    let elapsed = elapse::elapse(drive, ticks);
                     let after = elapsed.drive;
                     drive = after;
                     ended = byte(elapsed.stops, all);
@@ -374,7 +373,6 @@ fn run_settled(
                     let r = pass(all, ticks);
                     let after = r.sensors;
                     drive.sensors = after;
-                    number = r.number;
                     ended = r.stops;
                 }
             }
@@ -437,6 +435,7 @@ fn run_settled(
             for j in 0..16 {
                 let row = drive.rows[j];
                 if row.lockable() {
+                    // The row is taken out a second time, so that of the others the flags alone are read.
                     let one = drive.rows[j];
                     if one.locks(locking, conditions) {
                         let new = one.lock();

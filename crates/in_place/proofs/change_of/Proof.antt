@@ -12,6 +12,9 @@ sensor-change-requires c κs = search needs
 enum-known-kind-2 : tie.Need-enum-known-kind-2
 enum-known-kind-2 c = search needs
 
+elapse-change-requires : tie.Need-elapse-change-requires
+elapse-change-requires c κs = search needs
+
 enum-known-kind-3 : tie.Need-enum-known-kind-3
 enum-known-kind-3 c = search needs
 
@@ -64,6 +67,7 @@ change-of-spec =
     enum-known-kind
     sensor-change-requires
     enum-known-kind-2
+    elapse-change-requires
     enum-known-kind-3
     reset-change-requires
     enum-known-kind-4

@@ -1,5 +1,5 @@
 use borrow.Author.Needs.{needs}
-use Rattle.in_place.proofs.Sixteen.{fresh-kept}
+use Rattle.in_place.proofs.Sixteen.{fresh-sixteen}
 use Rattle.in_place.proofs.Running.{short-answers, short-stops, long-enough}
 use Rattle.in_place.proofs.run_events.Statement.{statement}
 use Rattle.in_place.proofs.run_events.Tie as tie
@@ -14,7 +14,7 @@ returns-2 : tie.Need-returns-2
 returns-2 c = search short-stops
 
 run-settled-requires : tie.Need-run-settled-requires
-run-settled-requires c κs = (search needs, search fresh-kept)
+run-settled-requires c κs = (search needs, search fresh-sixteen)
 
 same-length : tie.Need-same-length
 same-length c = search needs

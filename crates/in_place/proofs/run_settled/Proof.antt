@@ -3,7 +3,7 @@ use native.Mathlib.Omega.{arith}
 use mathlib.Core.Path.{refl}
 use mathlib.Core.Logic.{⊎-elim}
 use borrow.Author.Needs.{needs}
-use Rattle.in_place.proofs.Storing.{stored-idle, sensor-stored, nothing-stored, stops-short, stops-stored, pass-stored, cycle-stored, row-stored, spans-stored, transfer-stored}
+use Rattle.in_place.proofs.Storing.{stored-idle, sensor-stored, nothing-stored, stops-stored, pass-stored, cycle-stored, row-stored, spans-stored, transfer-stored}
 use Rattle.in_place.proofs.Changing.{sensor-place, sensor-scaled, row-placed, row-scaled}
 use Rattle.in_place.proofs.Finishing.{RowsFinished, finish-begin, finish-lock, finish-stay, finish-pass, finish-as, finished-ran, finished-flag}
 use Rattle.in_place.proofs.Running.{RunSoFar, run-begin, run-broken, run-done, next, next-says, stored-as, stored-long, run-again, elapse-fits}
@@ -101,9 +101,6 @@ enum-known-change-3 c = search needs
 
 by-stops-requires : tie.Need-by-stops-requires Inv-loop2 μ-loop2 Inv-loop μ-loop
 by-stops-requires c κs = search needs
-
-cast-elapse : tie.Need-cast-elapse Inv-loop2 μ-loop2 Inv-loop μ-loop
-cast-elapse c = let h = stops-short _ _ _ _ (c .before .by-stops .ensures) (c .if1 .taken) in search needs
 
 elapse-requires : tie.Need-elapse-requires Inv-loop2 μ-loop2 Inv-loop μ-loop
 elapse-requires c κs = search needs
@@ -209,8 +206,8 @@ loop-again c =
     let h =
     ⊎-elim (λ w. stored-as refl (sensor-stored _ (g .sofar .kept) _ _ _ _ (next-says g (c .before .before .before .change-of .ensures) (w .1 .given .1)) _ _ (w .4 .ensures) _ _ above (g .sofar .flag)) (w .6) (w .7) (w .8) (w .9) (w .10) (w .11))
     (⊎-elim (λ w. let q = next-says g (c .before .before .before .change-of .ensures) (w .1 .given .1) in stored-as (q .1) (row-stored _ (g .sofar .kept) _ _ _ _ _ _ _ _ _ _ above (g .sofar .flag) (q .0) (w .4 .ensures) (w .6 .ensures) (w .8 .ensures)) (w .9) (w .10) (w .11) (w .12) (w .13) (w .14))
-    (⊎-elim (λ w. stored-as (next-says g (c .before .before .before .change-of .ensures) (w .1 .given .1)) (stops-stored _ (g .sofar .kept) _ _ _ _ _ _ above (w .4 .ensures) (w .5 .taken) (w .6 .ensures) (w .8 .ensures)) (w .9) (w .10) (w .11) (w .12) (w .13) (w .14))
-    (⊎-elim (λ w. stored-as (next-says g (c .before .before .before .change-of .ensures) (w .1 .given .1)) (pass-stored _ (g .sofar .kept) _ _ _ _ _ _ above (g .sofar .flag) (w .4 .ensures) (w .5 .left) (w .6 .ensures)) (w .8) (w .9) (w .10) (w .11) (w .12) (w .13))
+    (⊎-elim (λ w. let q = next-says g (c .before .before .before .change-of .ensures) (w .1 .given .1) in stored-as (q .1) (stops-stored _ (g .sofar .kept) _ _ _ _ _ _ above (q .0) (w .4 .ensures) (w .5 .taken) (w .6 .ensures) (w .8 .ensures)) (w .9) (w .10) (w .11) (w .12) (w .13) (w .14))
+    (⊎-elim (λ w. let q = next-says g (c .before .before .before .change-of .ensures) (w .1 .given .1) in stored-as (q .1) (pass-stored _ (g .sofar .kept) _ _ _ _ _ _ above (g .sofar .flag) (q .0) (w .4 .ensures) (w .5 .left) (w .6 .ensures)) (w .8) (w .9) (w .10) (w .11) (w .12) (w .13))
     (⊎-elim (λ w. stored-as (next-says g (c .before .before .before .change-of .ensures) (w .1 .given .1)) (cycle-stored _ (g .sofar .kept) _ _ (g .sofar .flag) (w .3 .ensures)) (w .4) (w .5) (w .6) (w .7) (w .8) (w .9))
     (⊎-elim (λ w. stored-as (next-says g (c .before .before .before .change-of .ensures) (w .1 .given .1)) (spans-stored _ (g .sofar .kept) _ _ _ _ _ _ _ _ above (g .sofar .flag) (w .4 .ensures) (w .6 .ensures)) (w .7) (w .8) (w .9) (w .10) (w .11) (w .12))
     (⊎-elim (λ w. stored-as (next-says g (c .before .before .before .change-of .ensures) (w .1 .given .1)) (transfer-stored _ (g .sofar .kept) _ _ _ _ _ _ _ above (g .sofar .flag) (w .5 .ensures)) (w .6) (w .7) (w .8) (w .9) (w .10) (w .11))
@@ -261,7 +258,6 @@ run-settled-spec =
     either-requires
     enum-known-change-3
     by-stops-requires
-    cast-elapse
     elapse-requires
     byte-requires
     pass-requires
