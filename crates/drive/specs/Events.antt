@@ -119,6 +119,7 @@ sideOf direction = cond (eqb direction 0) Read Write
 abbrev pub noRow : ℕ → ℕ → Refusal
 noRow count i = when 1 (not (isRow count i))
 
+-- each event's own list; 2 "out of range: a field exceeds its range" of the ticks, of a reset's type and of a direction
 abbrev pub refusals : Drive → Event → List Refusal
 refusals d (reading s v) = noRow (d .«sensor_count») s ∷ readingRefusals v
 refusals d (elapse n) = when 2 (ltb mostTicks n) ∷ []

@@ -16,7 +16,8 @@ use Rattle.script.proofs.Few.{few-events}
 use Rattle.run.specs.declared.Ran.{Ran}
 use Rattle.run.specs.Outcome.{RunOutcome, outcome, outcomeIn, runEvents, runScript}
 use Rattle.in_place.proofs.Running.{along-length}
-use Rattle.run.proofs.Whole.{all-taken}
+use Rattle.reached.proofs.Reaching.{fresh-reached}
+use Rattle.run.proofs.Whole.{all-taken, accepted-is}
 use Rattle.report.specs.declared.Listed.{Listed}
 use Rattle.report.specs.Lines.{lines, eventLines, driveLines}
 use Rattle.report.specs.Listing.{listing, Told, told, toldIn, listOf}
@@ -42,7 +43,7 @@ getD-over bytes lent i h = front bytes (drop (length bytes) lent) i h
     front (x ∷ a) b (suc i) h = front a b i (omega (arith, h))
 
 abbrev sizedIn : RunOutcome → Type 0
-sizedIn (outcome answer place count drive answers stops) = Sized count answers stops
+sizedIn (outcome answer place count drive answers stops) = Sized count drive answers stops
 
 module _ (s answers stops : List ℕ) (long : 32766 ≤ length answers) (wide : 32766 ≤ length stops) where
   -- a script that reads to its end is run whole
@@ -71,9 +72,14 @@ module _ (s answers stops : List ℕ) (long : 32766 ≤ length answers) (wide : 
         ap runLines whole ∙ (λ i. e i ++ g i)
 
     accepted-sized : sizedIn (runScript (accepted capacity bands sensors es) 65536 answers stops)
+    unfolding freshDrive
     accepted-sized =
         let fresh = freshDrive capacity bands sensors in
+        let h = run-header capacity bands sensors es in
+        let r = fresh-reached capacity bands sensors (accepted-is s capacity bands sensors es q .fits) .shaped .header in
         subst sizedIn (sym whole) (record {
+          few-bands = omega (arith, h .1, r .few-bands);
+          few-sensors = omega (arith, h .2, r .few-sensors);
           long = omega (arith, length-append (answersOf fresh es) (drop (length (answersOf fresh es)) answers), along-length answerOf fresh es);
           wide = omega (arith, length-append (stopsIn fresh es) (drop (length (stopsIn fresh es)) stops), along-length stopsOf fresh es);
         })
@@ -87,14 +93,15 @@ module _ (s answers stops : List ℕ) (long : 32766 ≤ length answers) (wide : 
       go (bad place) q = refl
 
   script-sized : sizedIn (runScript (readScript s) 65536 answers stops)
+  unfolding freshDrive
   script-sized = go (readScript s) refl
     where
       go : (o : Script) → readScript s ≡ o → sizedIn (runScript o 65536 answers stops)
       go (accepted capacity bands sensors es) q = accepted-sized capacity bands sensors es q
-      go (bad place) q = record { long = omega arith; wide = omega arith }
+      go (bad place) q = record { few-bands = omega arith; few-sensors = omega arith; long = omega arith; wide = omega arith }
 
   module _ (r : Ran) (answers' stops' : List ℕ) (e : outcomeIn r answers' stops' ≡ runScript (readScript s) 65536 answers stops) where
-    pub ran-sized : Sized (r .count) answers' stops'
+    pub ran-sized : Sized (r .count) (r .drive) answers' stops'
     ran-sized = subst sizedIn (sym e) script-sized
 
     ran-lines : runLines (outcomeIn r answers' stops') ≡ listing (readScript s)

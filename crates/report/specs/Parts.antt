@@ -6,6 +6,7 @@ use mathlib.Core.List.{List, _++_}
 use lib.Dec.{eqb}
 use lib.ListN.{length}
 use Rattle.base.specs.Spliced.{spliced}
+use Rattle.drive.specs.declared.Drive.{Drive}
 use Rattle.run.specs.Outcome.{RunOutcome, outcome}
 use Rattle.report.specs.Lines.{eventLines, driveLines, badLine}
 
@@ -23,7 +24,9 @@ abbrev pub runLines : RunOutcome → List ℕ
 runLines (outcome answer place count drive answers stops) =
     cond (eqb answer 10) (badLine place) (eventLines answers stops count ++ driveLines (drive .«band_count») (drive .«sensor_count») drive)
 
--- a byte in both buffers for each event
-pub record Sized (count : ℕ) (answers stops : List ℕ) : Type 0 where
+-- a result of which every part is there: the rows of its drive, and a byte in both buffers for each event
+pub record Sized (count : ℕ) (drive : Drive) (answers stops : List ℕ) : Type 0 where
+  pub few-bands : drive .«band_count» ≤ 16
+  pub few-sensors : drive .«sensor_count» ≤ 16
   pub long : count ≤ length answers
   pub wide : count ≤ length stops

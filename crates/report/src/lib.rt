@@ -23,7 +23,7 @@ pub const MOST: usize = 426_486;
 
 // Writes the listing that a run's result and its buffers give, from the output's start.
 fn put_run(out: &mut [u8], ran: Ran, answers: &[u8], stops: &[u8]) -> usize
-    requires { ⌜ (Room (runLines (outcomeIn ran (now answers) (now stops))) 0 (now out)) × Sized (ran .count) (now answers) (now stops) ⌝ }
+    requires { ⌜ (Room (runLines (outcomeIn ran (now answers) (now stops))) 0 (now out)) × Sized (ran .count) (ran .drive) (now answers) (now stops) ⌝ }
     ensures { λ r. ⌜ Puts (runLines (outcomeIn ran (now (answers .entry)) (now (stops .entry)))) (now (out .entry)) 0 r (now (out .exit)) ⌝ }
 {
     let answer = ran.answer;

@@ -1,10 +1,12 @@
 // Lines written into an output, one after the other. Each function wants room for what it writes, which the listing shows before it calls.
 ghost use mathlib.Core.Path.{_≡_};
-ghost use Prim.Native.Nat.{_≤_};
+ghost use Prim.Native.Nat.{_≤_, _<_};
 ghost use mathlib.Core.List.{_∷_};
 ghost use lib.ListN.{length};
 ghost use Rattle.base.specs.Lists.{oneIf};
-ghost use Rattle.band.specs.Rows.{valueIn};
+ghost use Rattle.base.specs.Rows.{Takes};
+ghost use Rattle.sensor.specs.Single.{freshSensor};
+ghost use Rattle.band.specs.Rows.{freshRow, valueIn};
 ghost use Rattle.report.specs.Lines.{
   decimal,
   line,
@@ -170,6 +172,14 @@ fn put_band(out: &mut [u8], at: usize, number: usize, row: Row, conditions: [boo
     put_line(out, at, b'b', &numbers)
 }
 
+// One of the sixteen. With no test that the place is there the loop over the lines is quicker than by `bands::row_at`.
+fn row_at(all: [Row; 16], at: usize) -> Row
+    requires { ⌜ at < 16 ⌝ }
+    ensures { λ r. ⌜ Takes all at freshRow r ⌝ }
+{
+    all[at]
+}
+
 fn put_bands(
     out: &mut [u8],
     start: usize,
@@ -177,13 +187,13 @@ fn put_bands(
     conditions: [bool; 16],
     count: usize,
 ) -> usize
-    requires { ⌜ Room (bandLines conditions rows count) start (now out) ⌝ }
+    requires { ⌜ (Room (bandLines conditions rows count) start (now out)) × (count ≤ 16) ⌝ }
     ensures { λ r. ⌜ Puts (bandLines conditions rows count) (now (out .entry)) start r (now (out .exit)) ⌝ }
 {
     let mut at = start;
     let mut i = 0;
     while i < count {
-        let row = bands::row_at(rows, i);
+        let row = row_at(rows, i);
         at = put_band(out, at, i, row, conditions);
         i += 1;
     }
@@ -205,14 +215,21 @@ fn put_sensor(out: &mut [u8], at: usize, number: usize, sensor: Sensor) -> usize
     put_line(out, at, b's', &numbers)
 }
 
+fn sensor_at(all: [Sensor; 16], at: usize) -> Sensor
+    requires { ⌜ at < 16 ⌝ }
+    ensures { λ r. ⌜ Takes all at freshSensor r ⌝ }
+{
+    all[at]
+}
+
 fn put_sensors(out: &mut [u8], start: usize, sensors: [Sensor; 16], count: usize) -> usize
-    requires { ⌜ Room (sensorLines sensors count) start (now out) ⌝ }
+    requires { ⌜ (Room (sensorLines sensors count) start (now out)) × (count ≤ 16) ⌝ }
     ensures { λ r. ⌜ Puts (sensorLines sensors count) (now (out .entry)) start r (now (out .exit)) ⌝ }
 {
     let mut at = start;
     let mut i = 0;
     while i < count {
-        let sensor = sensors::sensor_at(sensors, i);
+        let sensor = sensor_at(sensors, i);
         at = put_sensor(out, at, i, sensor);
         i += 1;
     }
@@ -221,7 +238,7 @@ fn put_sensors(out: &mut [u8], start: usize, sensors: [Sensor; 16], count: usize
 
 // Writes the lines of the bands and of the sensors that a drive counts.
 pub fn put_drive(out: &mut [u8], at: usize, drive: Drive) -> usize
-    requires { ⌜ Room (driveLines (drive .«band_count») (drive .«sensor_count») drive) at (now out) ⌝ }
+    requires { ⌜ (Room (driveLines (drive .«band_count») (drive .«sensor_count») drive) at (now out)) × (drive .«band_count» ≤ 16) × (drive .«sensor_count» ≤ 16) ⌝ }
     ensures { λ r. ⌜ Puts (driveLines (drive .«band_count») (drive .«sensor_count») drive) (now (out .entry)) at r (now (out .exit)) ⌝ }
 {
     let conditions = drive.conditions();
