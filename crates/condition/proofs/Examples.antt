@@ -125,7 +125,7 @@ record Worked : Type 0 where
   reset-read : told Read 0 (enableRead ∷ reset 0 ∷ []) ≡ (true, true)
   reset-write : told Write 0 (enableRead ∷ reset 0 ∷ []) ≡ (false, false)
   no-reset : told Read 0 (enableRead ∷ reset 1 ∷ []) ≡ (false, false)
-  -- without the reset, the Set or the reading the side stays open: none of them may be struck
+  -- without the reset, the Set or the reading the side stays unlocked: none of them may be struck
   needs-reset : told Read 0 (enableRead ∷ []) ≡ (false, false)
   needs-set : told Read 0 (reset 0 ∷ []) ≡ (false, false)
   needs-reading : told Read 1 (sensorOn 0 3 ∷ bandOn 1 0x21 1 0 rowZero ∷ elapse 5 ∷ []) ≡ (false, false)

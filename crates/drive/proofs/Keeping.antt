@@ -1,5 +1,5 @@
 -- What every event keeps, whatever the drive: the header and the lengths, and whatever its parts keep of each sensor.
-use Prim.Native.Nat.{ℕ}
+use Prim.Native.Nat.{ℕ, suc}
 use mathlib.Core.Path.{_≡_, refl, ap, _∙_}
 use mathlib.Core.Bool.{Bool, cond}
 use mathlib.Core.List.{List, [], _∷_, map}
@@ -19,7 +19,7 @@ use Rattle.band.specs.declared.Row.{Row}
 use Rattle.geometry.specs.declared.Span.{Span}
 use Rattle.drive.specs.declared.Drive.{Drive}
 use Rattle.drive.specs.State.{freshDrive, withRows, withSpans, withSensors, settleOf, tickOf, SameHeader}
-use Rattle.drive.specs.Events.{Event, Shape, ticking, resetting, setting, sensing, placing, looking, shapeOf, answerOf, actBy, actOf, stepOf, runOf}
+use Rattle.drive.specs.Events.{Event, Shape, ticking, resetting, setting, sensing, placing, looking, shapeOf, answerOf, actBy, actOf, stepOf, runOf, along}
 
 -- ---- a step, from what the bands' settling and the event do
 
@@ -99,6 +99,12 @@ run-header capacity bands sensors es =
     let k = run-keeps (freshDrive capacity bands sensors) es in
     let f = fresh-header capacity bands sensors in
     (k .capacity ∙ f .0, k .«band_count» ∙ f .1, k .«sensor_count» ∙ f .2)
+
+-- what each event of a list gets is one number for each
+pub along-length : (f : Drive → Event → ℕ) (d : Drive) (es : List Event) → length (along f d es) ≡ length es
+unfolding along
+along-length f d [] = refl
+along-length f d (x ∷ es) = ap suc (along-length f (stepOf d x) es)
 
 -- ---- each sensor
 

@@ -28,7 +28,7 @@ pub record Settled (d₀ : Drive) (cs : List Bool) (d : Drive) (i : ℕ) : Type 
 pub settle-begin : (d : Drive) (cs : List Bool) → cs ≡ conditionsOf d → length (d .rows) ≡ 16 → Settled d cs d 0
 settle-begin d cs e h = record { conditions = e; rows = map-begin (settleRow cs) 16 (d .rows) h; rest = refl }
 
--- a turn: the row is settled and stored where it is open, and left where it is not
+-- a turn: the row is settled and stored where it is lockable, and left where it is not
 pub row-settles : (d₀ d x : Drive) (cs : List Bool) (i : ℕ) (z row : Row) → Settled d₀ cs d i → i < 16 → row ≡ settleRow cs (getD (d .rows) i z)
     → x ≡ withRows (set (d .rows) i row) d → Settled d₀ cs x (i + 1)
 row-settles d₀ d x cs i z row s h e q = rw q (record {

@@ -181,7 +181,7 @@ impl Drive {
         sensors::conditions(all, self.sensor_count)
     }
 
-    // The drive once its bands have settled: only an open row can change.
+    // The drive once its bands have settled: only a lockable row can change.
     pub fn settle(mut self) -> Drive
         ensures { λ r. ⌜ r ≡ settleOf self ⌝ }
     {

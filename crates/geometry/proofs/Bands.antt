@@ -78,7 +78,7 @@ pub none-closed : (bands : ℕ) (spans : List Span) (closed : List Bool) (start 
 none-closed bands spans closed start count t e q =
     sym (any-none (closedAt bands spans closed) start count (λ y u v. all-false closed (bandOf bands spans y) (sym e ∙ denied t q)))
 
--- a range in which no closed band has a block, and band 0 is open
+-- a range in which no closed band has a block, and band 0 is not closed
 module _ (bands : ℕ) (spans : List Span) (closed : List Bool) (start count : ℕ) (r : Bool)
     (b : Barred bands spans closed (record { start = start; length = count }) r) where
   pub barred-none : (z t : Bool) → length closed ≡ 16 → t ≡ (r || getD closed 0 z) → t ≡ false → false ≡ touchesOf bands spans closed start count

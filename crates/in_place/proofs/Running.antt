@@ -25,6 +25,7 @@ use Rattle.in_place.specs.FirstEvents.{thenMore, firstEvents, after, eve
 use Rattle.in_place.specs.Parts.{changeOf}
 use Rattle.in_place.specs.Parts.{SettledSixteen}
 use Rattle.base.proofs.Lists.{few-counted}
+use Rattle.drive.proofs.Keeping.{along-length}
 use Rattle.in_place.proofs.Sixteen.{step-sixteen}
 use Rattle.in_place.proofs.Storing.{EventRan, EventStored, finishOf}
 use Rattle.in_place.proofs.Changing.{Says, says-as}
@@ -40,11 +41,6 @@ run-one : (d : Drive) (es : List Event) (e : Event) → runOf d (es ++ (e ∷ []
 unfolding runOf
 run-one d [] e = refl
 run-one d (x ∷ es) e = run-one (stepOf d x) es e
-
-pub along-length : (f : Drive → Event → ℕ) (d : Drive) (es : List Event) → length (along f d es) ≡ length es
-unfolding along
-along-length f d [] = refl
-along-length f d (x ∷ es) = ap suc (along-length f (stepOf d x) es)
 
 -- the next byte over a lent buffer
 set-over : (bytes lent : List ℕ) (v : ℕ) → length bytes < length lent → set (over bytes lent) (length bytes) v ≡ over (bytes ++ (v ∷ [])) lent

@@ -10,12 +10,11 @@ use borrow.Author.Tests.{le-leb}
 use Rattle.answer.specs.Numbers.{numberOf}
 use Rattle.drive.specs.State.{freshDrive}
 use Rattle.drive.specs.Events.{Event, answerOf, stopsOf, runOf, answersOf, stopsIn, over}
-use Rattle.drive.proofs.Keeping.{run-header}
+use Rattle.drive.proofs.Keeping.{run-header, along-length}
 use Rattle.script.specs.Whole.{Script, accepted, bad, readScript}
 use Rattle.script.proofs.Few.{few-events}
 use Rattle.run.specs.declared.Ran.{Ran}
 use Rattle.run.specs.Outcome.{RunOutcome, outcome, outcomeIn, runEvents, runScript}
-use Rattle.in_place.proofs.Running.{along-length}
 use Rattle.reached.proofs.Reaching.{fresh-reached}
 use Rattle.run.proofs.Whole.{all-taken, accepted-is}
 use Rattle.report.specs.declared.Listed.{Listed}
