@@ -1,7 +1,7 @@
 -- What single moves do to a sensor: laws of `afterCause` by cause.
 use mathlib.Core.Path.{_≡_, refl, sym, ap, _∙_}
 use mathlib.Core.Bool.{Bool, true, false, cond, Bool·beq, false≢true}
-use Prim.Native.Nat.{ℕ, _-_, _≤_}
+use Prim.Native.Nat.{ℕ, _-_, _≤_, _<_}
 use native.Mathlib.Omega.{arith}
 use lib.Dec.{eqb}
 use borrow.Author.Tests.{eq-eqb, ne-eqb}
@@ -23,7 +23,7 @@ use Rattle.phases.specs.declared.Cause.the-variants.{
   PowerCycle,
 }
 use Rattle.sensor.specs.declared.single.Sensor.{Sensor}
-use Rattle.phases.specs.Phases.{isEnabled, whenEnabled, whenDisabled, moveOf, settled, levelAfter}
+use Rattle.phases.specs.Phases.{isEnabled, whenEnabled, whenDisabled, powerCycled, conditionIn, moveOf, settled, levelAfter}
 use Rattle.sensor.specs.Single.{freshSensor, moved, movedBy, withLevel, withTimer, afterCause, timerIn, turnCause, turnedTo, enableOf, sensorTick, powerCycleOf}
 use Rattle.sensor.specs.Parts.{loweredBy}
 
@@ -173,3 +173,44 @@ module _ (s : Sensor) (a : s .level ≡ false) (c : s .condition ≡ false) (d :
   pub rests-settled : s .phase ≡ SS2 → powerCycleOf s ≡ s
   unfolding powerCycleOf afterCause moveOf
   rests-settled e = ap (λ (p : Phase). movedBy (moveOf p PowerCycle) (withLevel false s)) e ∙ as-it-is SS2 s a e c zero-timer
+
+-- the phases that a power cycle enters
+abbrev isEntered : Phase → Bool
+isEntered SS0 = true
+isEntered ST0 = false
+isEntered SS1 = false
+isEntered ST1 = false
+isEntered SS2 = true
+
+-- and nothing else: a power cycle that leaves the sensor as it is finds nothing TRUE, no timer, and one of the two phases
+module _ (s : Sensor) (h : powerCycleOf s ≡ s) where
+  cycled-phase : s .phase ≡ powerCycled (s .phase)
+  unfolding powerCycleOf afterCause moveOf
+  cycled-phase = sym (ap (λ (x : Sensor). x .phase) h)
+
+  pub level-told : s .level ≡ true → false ≡ true
+  unfolding powerCycleOf afterCause moveOf
+  level-told e = ap (λ (x : Sensor). x .level) h ∙ e
+
+  pub condition-told : s .condition ≡ true → false ≡ true
+  unfolding powerCycleOf afterCause moveOf
+  condition-told e = sym (none (isEnabled (s .phase))) ∙ ap (λ (x : Sensor). x .condition) h ∙ e
+    where
+      none : (b : Bool) → conditionIn (cond b SS2 SS0) (s .condition) ≡ false
+      none true = refl
+      none false = refl
+
+  pub timer-told : 0 < s .timer → false ≡ true
+  unfolding powerCycleOf afterCause moveOf
+  timer-told l = absurd (omega (arith, l, sym (none (isEnabled (s .phase))) ∙ ap (λ (x : Sensor). x .timer) h))
+    where
+      none : (b : Bool) → timerIn (cond b SS2 SS0) (withLevel false s) ≡ 0
+      none true = refl
+      none false = refl
+
+  pub phase-told : (p : Phase) → s .phase ≡ p → isEntered p ≡ false → false ≡ true
+  phase-told p e q = sym q ∙ ap isEntered (sym e ∙ cycled-phase) ∙ both (isEnabled (s .phase))
+    where
+      both : (b : Bool) → isEntered (cond b SS2 SS0) ≡ true
+      both true = refl
+      both false = refl

@@ -190,6 +190,7 @@ impl Sensor {
     // Whether a power cycle leaves the sensor as it is: nothing TRUE, no timer, and disabled or settled FALSE.
     pub fn rests(self) -> bool
         ensures { λ r. ⌜ (r ≡ true → powerCycleOf self ≡ self) ⌝ }
+        ensures only { λ r. ⌜ (powerCycleOf self ≡ self → r ≡ true) ⌝ }
     {
         if self.level {
             return false;
@@ -203,8 +204,10 @@ impl Sensor {
         let phase = self.phase;
         match phase {
             Phase::SS0 => true,
+            Phase::ST0 => false,
+            Phase::SS1 => false,
+            Phase::ST1 => false,
             Phase::SS2 => true,
-            _ => false,
         }
     }
 

@@ -41,7 +41,7 @@ loop-less : tie.Need-loop-less Inv-loop μ-loop
 loop-less c = search needs
 
 loop-again : tie.Need-loop-again Inv-loop μ-loop
-loop-again c = ⊎-elim (λ w. search (one-rests, c .before .rests .ensures)) (λ w. search one-cycles) (c .if1 .came)
+loop-again c = ⊎-elim (λ w. search (one-rests, c .before .rests .ensures .0)) (λ w. search one-cycles) (c .if1 .came)
 
 returns : tie.Need-returns Inv-loop μ-loop
 returns c = search map-done

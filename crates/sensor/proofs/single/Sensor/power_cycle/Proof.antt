@@ -8,7 +8,7 @@ rests-requires : tie.Need-rests-requires
 rests-requires c κs = search needs
 
 returns : tie.Need-returns
-returns c = sym (c .before .rests .ensures (c .if1 .taken))
+returns c = sym (c .before .rests .ensures .0 (c .if1 .taken))
 
 step-requires : tie.Need-step-requires
 step-requires c κs = search needs
