@@ -172,6 +172,8 @@ pub record Replies (d : Drive) (e : Event) (r : Reply) : Type 0 where
   pub answer : numberOf (r .answer) ≡ answerOf d e
   pub stops : r .stops ≡ stopsOf d e
   pub drive : r .drive ≡ stepOf d e
+  -- "The lowest number that applies is given"
+  pub lowest : LowestOf (refusals d e) (numberOf (r .answer))
 
 -- the event that a kind and the bytes beside it are; only a band Set looks at the bytes
 abbrev pub eventOf : Kind → List ℕ → Event
