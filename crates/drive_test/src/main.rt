@@ -5,7 +5,7 @@ use band::BandColumns;
 use band::Row;
 use drive::Drive;
 use drive::Kind;
-use script::EventRead;
+use event_reader::EventRead;
 use script::HeaderRead;
 use sensor::Sensor;
 use sensor::SensorColumns;
@@ -122,7 +122,7 @@ fn run_from(script: &[u8], start: usize, fresh: Drive) -> Drive {
         else {
             return drive;
         };
-        let tokens = script::tokens_at(script, place, size);
+        let tokens = event_reader::tokens_at(script, place, size);
         drive = after(drive, index, kind, tokens);
         at = next;
     }

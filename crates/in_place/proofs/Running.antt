@@ -17,9 +17,9 @@ use Rattle.drive.specs.State.{Freshens, settleOf}
 use Rattle.drive.specs.Events.{Event, eventOf, answerOf, stopsOf, stepOf, runOf, along, answersOf, stopsIn, over}
 use Rattle.elapse.specs.declared.Elapsed.{Elapsed}
 use Rattle.elapse.specs.Jumps.{Elapses}
-use Rattle.script.specs.declared.EventRead.{EventRead}
-use Rattle.script.specs.declared.EventRead.the-variants as R
-use Rattle.script.specs.Fields.{Parsed, event, broken, parsedIn, tokensAt, eventAt}
+use Rattle.event_reader.specs.declared.EventRead.{EventRead}
+use Rattle.event_reader.specs.declared.EventRead.the-variants as R
+use Rattle.event_reader.specs.Fields.{Parsed, event, broken, parsedIn, tokensAt, eventAt}
 use Rattle.in_place.specs.declared.Change.{Change}
 use Rattle.in_place.specs.FirstEvents.{thenMore, firstEvents, after, eventsRun, freshOf, firstEventsRun}
 use Rattle.in_place.specs.Parts.{changeOf}

@@ -7,7 +7,7 @@ use lib.ListN.{length}
 use Rattle.drive.specs.declared.Drive.{Drive}
 use Rattle.drive.specs.State.{headerFits, freshDrive}
 use Rattle.drive.specs.Events.{Event, runOf, answersOf, stopsIn, over}
-use Rattle.script.specs.Fields.{Parsed, event, broken, eventAt}
+use Rattle.event_reader.specs.Fields.{Parsed, event, broken, eventAt}
 
 -- an event that reads, and those that follow it; none where it does not read
 abbrev pub thenMore : Parsed → (ℕ → List Event) → List Event

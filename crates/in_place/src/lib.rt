@@ -11,7 +11,7 @@ ghost use Rattle.sensor.specs.Columns.{sensorAnswer, sensorAfter};
 ghost use Rattle.band.specs.Rows.{closedOn, lastResetType};
 ghost use Rattle.geometry.specs.Events.{transferAnswer};
 ghost use Rattle.drive.specs.Events.{sideOf};
-ghost use Rattle.script.specs.Fields.{tokensAt};
+ghost use Rattle.event_reader.specs.Fields.{tokensAt};
 ghost use Rattle.in_place.specs.FirstEvents.{after, eventsRun, firstEvents, freshOf, firstEventsRun};
 ghost use Rattle.in_place.specs.Parts.{noReset, sensorChange, rowChange, elapseChange, resetChange, changeOf};
 ghost use Rattle.in_place.specs.Parts.{SettledSixteen, LeavesSensor, LeavesRow, byStops, LeavesSensors};
@@ -20,7 +20,7 @@ use band::Row;
 use drive::Drive;
 use drive::Kind;
 use geometry::Span;
-use script::EventRead;
+use event_reader::EventRead;
 use sensor::Sensor;
 use sensor::SensorEvent;
 

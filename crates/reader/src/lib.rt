@@ -1,9 +1,9 @@
 // The reader of a script (document 01, 'Script'): it "keeps the script and its cursor as one thing".
 ghost use mathlib.Core.Path.{_≡_};
 ghost use Rattle.numbers.specs.Groups.{foundIn, numberAt};
-ghost use Rattle.script.specs.Fields.{parsedIn, eventAt, tokensAt};
+ghost use Rattle.event_reader.specs.Fields.{parsedIn, eventAt, tokensAt};
 use numbers::Number;
-use script::EventRead;
+use event_reader::EventRead;
 
 // A script, and the place in it that is read next.
 pub struct Reader<'a> {
@@ -29,14 +29,14 @@ pub fn number<'a>(r: Reader<'a>) -> Number
 pub fn event<'a>(r: Reader<'a>) -> EventRead
     ensures { λ s. ⌜ parsedIn (now (r .entry .script)) s ≡ eventAt (now (r .entry .script)) (r .entry .at) ⌝ }
 {
-    script::event_at(r.script, r.at)
+    event_reader::event_at(r.script, r.at)
 }
 
 // So many bytes at the reader's place, as a part of the script itself; no bytes where they would not lie in it.
 pub fn part<'a>(r: Reader<'a>, count: usize) -> &'a [u8]
     ensures { λ q. ⌜ now q ≡ tokensAt (now (r .entry .script)) (r .entry .at) count ⌝ }
 {
-    script::tokens_at(r.script, r.at, count)
+    event_reader::tokens_at(r.script, r.at, count)
 }
 
 // The reader moved on: the same script, at the place that is read next, as a reading hands it back.

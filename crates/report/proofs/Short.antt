@@ -29,8 +29,8 @@ use Rattle.drive.proofs.Answers.{answer-below}
 use Rattle.drive.proofs.Keeping.{step-keeps, Each, run-each, fresh-each}
 use Rattle.elapse.proofs.Calm.{stops-few}
 use Rattle.reached.proofs.Reaching.{fresh-reached}
-use Rattle.script.specs.Fields.{Parsed, event, broken, eventAt}
-use Rattle.script.specs.Fields.{Events, events, badFrom, before, andThen}
+use Rattle.event_reader.specs.Fields.{Parsed, event, broken, eventAt}
+use Rattle.script.specs.Events.{Events, events, badFrom, before, andThen}
 use Rattle.script.specs.Whole.{Header, header, noHeader, headerAt, Script, accepted, bad, withEvents, withHeader, readScript}
 use Rattle.script.specs.Parts.{eventsIn, eventsFrom}
 use Rattle.script.proofs.Few.{few-events}

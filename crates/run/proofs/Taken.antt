@@ -8,10 +8,10 @@ use lib.Dec.{ltb}
 use lib.ListN.{length, take}
 use borrow.Author.Tests.{ltb-false}
 use Rattle.drive.specs.Events.{Event}
-use Rattle.script.specs.Fields.{Parsed, event, broken, eventAt}
-use Rattle.script.specs.Fields.{Events, events, badFrom, before, andThen}
+use Rattle.event_reader.specs.Fields.{Parsed, event, broken, eventAt}
+use Rattle.script.specs.Events.{Events, events, badFrom, before, andThen}
 use Rattle.script.specs.Parts.{eventsIn, eventsFrom}
-use Rattle.script.proofs.Progress.{event-within}
+use Rattle.event_reader.proofs.Progress.{event-within}
 use Rattle.in_place.specs.FirstEvents.{thenMore, firstEvents}
 
 -- with at most so many events, as many as there are bytes at least

@@ -19,7 +19,7 @@ use Rattle.script.specs.declared.HeaderRead.{HeaderRead}
 use Rattle.script.specs.declared.HeaderRead.the-variants as H
 use Rattle.script.specs.declared.Checked.{Checked}
 use Rattle.script.specs.declared.Checked.the-variants as C
-use Rattle.script.specs.Fields.{Events, events, badFrom}
+use Rattle.script.specs.Events.{Events, events, badFrom}
 use Rattle.script.specs.Whole.{Header, header, noHeader, fieldHeader, headerIn, headerAt, Script, accepted, bad, withEvents, withHeader, readScript, reads, badAt, checkedIn, checkScript, checkOf}
 use Rattle.script.specs.Parts.{eventsFrom}
 use Rattle.run.specs.declared.Ran.{Ran}

@@ -5,23 +5,23 @@ use native.Mathlib.Omega.{arith}
 use mathlib.Core.Bool.{Bool, true, false, cond}
 use mathlib.Core.List.{List, []}
 use lib.Dec.{ltb}
-use lib.ListN.{length, take, drop}
-use borrow.Author.Tests.{lt-ltb, le-ltb, ltb-true, ltb-false, le-leb}
+use lib.ListN.{length}
+use borrow.Author.Tests.{lt-ltb, le-ltb, ltb-true, ltb-false}
 use Rattle.base.proofs.Cases.{cond-true, cond-false}
 use Rattle.numbers.specs.declared.Number.{Number}
 use Rattle.numbers.specs.declared.Number.the-variants.{Is, Bad}
 use Rattle.numbers.specs.Groups.{Found, foundIn}
 use Rattle.drive.specs.Events.{Event, eventOf}
-use Rattle.script.specs.declared.EventRead.{EventRead}
-use Rattle.script.specs.declared.EventRead.the-variants as R
+use Rattle.event_reader.specs.declared.EventRead.{EventRead}
+use Rattle.event_reader.specs.declared.EventRead.the-variants as R
 use Rattle.script.specs.declared.HeaderRead.{HeaderRead}
 use Rattle.script.specs.declared.HeaderRead.the-variants as H
 use Rattle.script.specs.declared.Checked.{Checked}
-use Rattle.script.specs.Fields.{Parsed, event, broken, parsedIn, tokensAt, eventAt}
-use Rattle.script.specs.Fields.{Events, events, badFrom, before, andThen}
+use Rattle.event_reader.specs.Fields.{Parsed, event, broken, parsedIn, tokensAt, eventAt}
+use Rattle.script.specs.Events.{Events, events, badFrom, before, andThen}
 use Rattle.script.specs.Whole.{Header, noHeader, fieldHeader, headerIn, headerAt, withEvents, withHeader, readScript, Check, reads, badAt, checkedIn, checkEvents, checkFrom, checkScript, checkOf, ReadsOn}
 use Rattle.script.specs.Parts.{eventsIn, eventsFrom}
-use Rattle.script.proofs.Progress.{event-past}
+use Rattle.event_reader.proofs.Progress.{event-past}
 
 -- ---- the header
 
@@ -129,15 +129,6 @@ module _ (s : List ℕ) (h : length s ≤ 65536) (r : HeaderRead) (e : headerIn 
       told : (o : Events) → checkEvents o ≡ checkScript (withEvents a b c o)
       told (events es) = refl
       told (badFrom p) = refl
-
--- ---- the part of the script that holds an expression's bytes
-
-pub tokens-part : (s : List ℕ) (start count : ℕ) → start ≤ length s → count ≤ length s - start
-    → take (start + count - start) (drop start s) ≡ tokensAt s start count
-tokens-part s start count h k =
-    let e : start + count - start ≡ count = omega arith in
-    ap (λ (n : ℕ). take n (drop start s)) e
-    ∙ cond-true (lib.Dec.leb start (length s)) _ _ _ (le-leb start (length s) h) (cond-true (lib.Dec.leb count (length s - start)) _ _ _ (le-leb count (length s - start) k) refl)
 
 -- ---- the events from a place on, with no count of the bytes that are left
 

@@ -10,12 +10,12 @@ use borrow.Author.Tests.{ltb-false}
 use Rattle.numbers.specs.Groups.{Found, found, none, numberAt}
 use Rattle.drive.specs.State.{headerFits}
 use Rattle.drive.specs.Events.{Event}
-use Rattle.script.specs.Fields.{Parsed, event, broken, eventAt}
-use Rattle.script.specs.Fields.{Events, events, badFrom, before, andThen}
+use Rattle.event_reader.specs.Fields.{Parsed, event, broken, eventAt}
+use Rattle.script.specs.Events.{Events, events, badFrom, before, andThen}
 use Rattle.script.specs.Whole.{Header, header, noHeader, fieldHeader, headerAt, accepted, bad, withEvents, withHeader, readScript}
 use Rattle.script.specs.Parts.{eventsIn, eventsFrom}
-use Rattle.script.proofs.Bounds.{NumberIn, number-at}
-use Rattle.script.proofs.Progress.{event-within}
+use Rattle.event_reader.proofs.Bounds.{NumberIn, number-at}
+use Rattle.event_reader.proofs.Progress.{event-within}
 
 -- the events from a place on: two bytes each
 few-from : (k : ℕ) (s : List ℕ) (at : ℕ) (es : List Event) → at ≤ length s → eventsIn k s at ≡ events es → at + 2 * length es ≤ length s

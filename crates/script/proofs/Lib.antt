@@ -1,5 +1,2 @@
-pub mod Bounds
-pub mod Chains
-pub mod Progress
 pub mod Checking
 pub mod Few

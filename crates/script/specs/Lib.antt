@@ -1,3 +1,3 @@
-pub mod Fields
+pub mod Events
 pub mod Whole
 pub mod Parts

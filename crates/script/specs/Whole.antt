@@ -8,7 +8,8 @@ use lib.ListN.{length}
 use Rattle.numbers.specs.Groups.{Found, found, none, numberAt}
 use Rattle.drive.specs.State.{headerFits}
 use Rattle.drive.specs.Events.{Event}
-use Rattle.script.specs.Fields.{Events, events, badFrom, andThen, eventAt}
+use Rattle.event_reader.specs.Fields.{eventAt}
+use Rattle.script.specs.Events.{Events, events, badFrom, andThen}
 use Rattle.script.specs.Parts.{eventsFrom}
 use Rattle.script.specs.declared.HeaderRead.{HeaderRead}
 use Rattle.script.specs.declared.HeaderRead.the-variants as H

@@ -6,11 +6,11 @@ use base.Logic.{emp}
 use contract.Monad.{factI}
 use denote.Enum.Laws as EL
 use denote.Ref.{now}
-use Rattle.script.specs.Fields.{parsedIn, eventAt}
-use Rattle.script.proofs.EventRead as S
-use Rattle.script.proofs.EventRead.Laws as S′
-use Rattle.script.proofs.event_at.Symbol as step
-use Rattle.script.proofs.event_at.Met as step-thm
+use Rattle.event_reader.specs.Fields.{parsedIn, eventAt}
+use Rattle.event_reader.proofs.EventRead as S
+use Rattle.event_reader.proofs.EventRead.Laws as S′
+use Rattle.event_reader.proofs.event_at.Symbol as step
+use Rattle.event_reader.proofs.event_at.Met as step-thm
 use Rattle.reader.proofs.Walk.{Reading, thin-meets}
 use Rattle.reader.proofs.event.Key.{name as #reader·event}
 use Rattle.reader.proofs.event as event
@@ -30,4 +30,4 @@ pub event-spec : {M : Type 1} → stated.statement M
 unfolding code.routine
 event-spec 𝓤 H 𝓜 𝓖 𝓡 =
     thin-meets reading 𝓤 H 𝓜 𝓖 𝓡 (event.clauses 𝓤 H (𝓖 .A) (𝓜 .mem) (𝓡 .run)) (λ κs a g r e. factI 𝓤 _ (emp 𝓤) e)
-    code.env #reader·event (code.unfolded 𝓤 H 𝓜 𝓡) step.routine code.calls-script·event-at (step-thm.met 𝓤 H 𝓜 𝓖 𝓡)
+    code.env #reader·event (code.unfolded 𝓤 H 𝓜 𝓡) step.routine code.calls-event-reader·event-at (step-thm.met 𝓤 H 𝓜 𝓖 𝓡)

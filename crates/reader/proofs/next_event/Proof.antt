@@ -30,11 +30,11 @@ use denote.Triple.Statement.{Triple}
 use denote.Triple.Bound.{Bound}
 use denote.Triple.Entry.{onEntry}
 use denote.Triple.Walked.{Stays}
-use Rattle.script.specs.Fields.{parsedIn, eventAt}
-use Rattle.script.specs.declared.EventRead.{EventRead}
+use Rattle.event_reader.specs.Fields.{parsedIn, eventAt}
+use Rattle.event_reader.specs.declared.EventRead.{EventRead}
 use Rattle.reader.specs.declared.Reader.{Reader}
-use Rattle.script.proofs.EventRead as S
-use Rattle.script.proofs.EventRead.Laws as S′
+use Rattle.event_reader.proofs.EventRead as S
+use Rattle.event_reader.proofs.EventRead.Laws as S′
 use Rattle.reader.proofs.new as new
 use Rattle.reader.proofs.new.Symbol as new-def
 use Rattle.reader.proofs.new.Met as new-thm

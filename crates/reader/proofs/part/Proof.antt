@@ -28,12 +28,12 @@ use denote.Triple.Statement.{Triple}
 use denote.Triple.Bound.{Bound}
 use denote.Triple.Entry.{onEntry}
 use denote.Triple.Walked.{Stays}
-use Rattle.script.specs.Fields.{tokensAt}
+use Rattle.event_reader.specs.Fields.{tokensAt}
 use Rattle.reader.specs.declared.Reader.{Reader}
 use Rattle.reader.proofs.Reader.Laws as T′
-use Rattle.script.proofs.tokens_at as step
-use Rattle.script.proofs.tokens_at.Symbol as step-def
-use Rattle.script.proofs.tokens_at.Met as step-thm
+use Rattle.event_reader.proofs.tokens_at as step
+use Rattle.event_reader.proofs.tokens_at.Symbol as step-def
+use Rattle.event_reader.proofs.tokens_at.Met as step-thm
 use Rattle.reader.proofs.Walk.{Fact, Says, End, ends, Token, calls-said, at-env, known, meets, B, reader-stay, reader-goes, reader-vals, reader-tells, reader-typed, number-stay, number-goes, script-val, ReaderOwn, numbered, apart}
 use Rattle.reader.proofs.part.Key.{name as #reader·part}
 use Rattle.reader.proofs.part as part
@@ -85,5 +85,5 @@ unfolding code.routine
 part-spec 𝓤 H 𝓜 𝓖 𝓡 =
     let W : Given 𝓤 H (𝓖 .A) = givenOf 𝓤 H 𝓜 𝓖 in
     meets 𝓤 H 𝓜 𝓖 𝓡 code.env #reader·part code.function (code.unfolded 𝓤 H 𝓜 𝓡) part.ended (part.clauses 𝓤 H (𝓖 .A) (𝓜 .mem) (𝓡 .run)) stayed (reader-goes 𝓤 H (𝓖 .A) W, (number-goes 𝓤 H (𝓖 .A) W, tt)) (λ κs. (reader-vals κs, (uint-vals w64, tt))) (λ κs. (reader-tells κs, (uint-tells w64, tt)))
-    (λ κs qs bounds a g are. walk 𝓤 H (𝓖 .A) W (𝓜 .mem) (𝓡 .run) (at-env 𝓤 H 𝓜 𝓖 𝓡 code.env) (known 𝓤 H 𝓜 𝓖 𝓡 code.env step-def.name step-def.routine code.calls-script·tokens-at (Says step.ended of-place 𝓤 H (𝓖 .A)) (step-thm.met 𝓤 H 𝓜 𝓖 𝓡))
+    (λ κs qs bounds a g are. walk 𝓤 H (𝓖 .A) W (𝓜 .mem) (𝓡 .run) (at-env 𝓤 H 𝓜 𝓖 𝓡 code.env) (known 𝓤 H 𝓜 𝓖 𝓡 code.env step-def.name step-def.routine code.calls-event-reader·tokens-at (Says step.ended of-place 𝓤 H (𝓖 .A)) (step-thm.met 𝓤 H 𝓜 𝓖 𝓡))
     (κs .0) (qs .0) (a .0) (a .1 .0) (are .1 .0 .1) (reader-typed 𝓤 H (𝓖 .A) W κs (a .0) (are .0)))

@@ -28,7 +28,7 @@ use denote.Triple.Statement.{Triple}
 use denote.Triple.Bound.{Bound}
 use denote.Triple.Entry.{onEntry}
 use denote.Triple.Walked.{Stays}
-use Rattle.script.specs.Fields.{tokensAt}
+use Rattle.event_reader.specs.Fields.{tokensAt}
 use Rattle.reader.specs.declared.Reader.{Reader}
 use Rattle.reader.proofs.new as new
 use Rattle.reader.proofs.new.Symbol as new-def

@@ -1,7 +1,7 @@
-use Rattle.script.proofs.Chains.{kind-bad, kind-known, kind-span, kind-zero, kind-large}
+use Rattle.event_reader.proofs.Chains.{kind-bad, kind-known, kind-span, kind-zero, kind-large}
 use borrow.Author.Needs.{needs}
-use Rattle.script.proofs.event_at.Statement.{statement}
-use Rattle.script.proofs.event_at.Tie as tie
+use Rattle.event_reader.proofs.event_at.Statement.{statement}
+use Rattle.event_reader.proofs.event_at.Tie as tie
 
 number-at-requires : tie.Need-number-at-requires
 number-at-requires c κs = search needs

@@ -1,9 +1,9 @@
-use Rattle.script.proofs.Chains.{fields, either}
+use Rattle.event_reader.proofs.Chains.{fields, either}
 use Rattle.base.proofs.Cases.{cond-true, cond-false}
 use borrow.Author.Tests.{eq-eqb, ne-eqb}
 use borrow.Author.Needs.{needs}
-use Rattle.script.proofs.three_at.Statement.{statement}
-use Rattle.script.proofs.three_at.Tie as tie
+use Rattle.event_reader.proofs.three_at.Statement.{statement}
+use Rattle.event_reader.proofs.three_at.Tie as tie
 
 number-at-requires : tie.Need-number-at-requires
 number-at-requires c κs = search needs

@@ -10,10 +10,10 @@ use Rattle.sensor.specs.Columns.{sensorMasks}
 use Rattle.token_reader.specs.Read.{mostTokenBytes}
 use Rattle.band.specs.Sets.{bandMasks}
 use Rattle.drive.specs.Events.{Event, reading, elapse, reset, sensorSet, bandSet, geometry, transfer, eventOf}
-use Rattle.script.specs.declared.EventRead.{EventRead}
-use Rattle.script.specs.declared.EventRead.the-variants as R
-use Rattle.script.specs.declared.FirstColumns.the-variants as F
-use Rattle.script.specs.declared.BytesRead.the-variants as P
+use Rattle.event_reader.specs.declared.EventRead.{EventRead}
+use Rattle.event_reader.specs.declared.EventRead.the-variants as R
+use Rattle.event_reader.specs.declared.FirstColumns.the-variants as F
+use Rattle.event_reader.specs.declared.BytesRead.the-variants as P
 
 -- what stands at a place: an event and the place after it, or none
 pub data Parsed : Type 0 where
@@ -139,16 +139,3 @@ eventAt s at = field (numberAt s at) (λ kind at. ofKind kind s at)
 abbrev pub parsedIn : List ℕ → EventRead → Parsed
 parsedIn s (R.Is kind start count next) = event (eventOf kind (tokensAt s start count)) next
 parsedIn s R.Bad = broken
-
--- the events from a place on, or the place at which the first failing event starts
-pub data Events : Type 0 where
-  events : List Event → Events
-  badFrom : (place : ℕ) → Events
-
-abbrev pub before : Event → Events → Events
-before e (events es) = events (e ∷ es)
-before e (badFrom place) = badFrom place
-
-abbrev pub andThen : ℕ → Parsed → (ℕ → Events) → Events
-andThen at (event e next) follow = before e (follow next)
-andThen at broken follow = badFrom at

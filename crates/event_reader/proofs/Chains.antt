@@ -5,7 +5,7 @@ use native.Mathlib.Omega.{arith}
 use mathlib.Core.Bool.{Bool, true, false, cond}
 use mathlib.Core.List.{List}
 use lib.Dec.{eqb, leb, ltb}
-use lib.ListN.{length}
+use lib.ListN.{length, take, drop}
 use borrow.Author.Tests.{lt-ltb, le-ltb, le-leb, lt-leb, eq-eqb, ne-eqb, eqb-true, eqb-false, leb-true}
 use Rattle.base.specs.Columns.{named}
 use Rattle.base.proofs.Cases.{cond-true, cond-false}
@@ -13,13 +13,13 @@ use Rattle.numbers.specs.declared.Number.{Number}
 use Rattle.numbers.specs.declared.Number.the-variants.{Is, Bad}
 use Rattle.numbers.specs.Groups.{Found, found, foundIn, numberAt}
 use Rattle.drive.specs.Events.{geometry, transfer}
-use Rattle.script.specs.declared.FirstColumns.{FirstColumns}
-use Rattle.script.specs.declared.FirstColumns.the-variants as F
-use Rattle.script.specs.declared.BytesRead.{BytesRead}
-use Rattle.script.specs.declared.BytesRead.the-variants as P
-use Rattle.script.proofs.Bounds.{NumberIn, number-here}
-use Rattle.script.specs.Fields.{Parsed, event, broken, field, Follow, firstColumnsAt, Stretch, stretch, cut, fieldTokens, tokensAt, columnAt, stretchAt, expressionAt, geometryAt, transferAt, ofKind, eventAt}
-use Rattle.script.specs.Parts.{firstColumnsIn, bytesReadIn}
+use Rattle.event_reader.specs.declared.FirstColumns.{FirstColumns}
+use Rattle.event_reader.specs.declared.FirstColumns.the-variants as F
+use Rattle.event_reader.specs.declared.BytesRead.{BytesRead}
+use Rattle.event_reader.specs.declared.BytesRead.the-variants as P
+use Rattle.event_reader.proofs.Bounds.{NumberIn, number-here}
+use Rattle.event_reader.specs.Fields.{Parsed, event, broken, field, Follow, firstColumnsAt, Stretch, stretch, cut, fieldTokens, tokensAt, columnAt, stretchAt, expressionAt, geometryAt, transferAt, ofKind, eventAt}
+use Rattle.event_reader.specs.Parts.{firstColumnsIn, bytesReadIn}
 
 -- a number that does not read, and one that does
 pub read-bad : (r : Number) (f : Found) (k : ℕ → ℕ → Parsed) → foundIn r ≡ f → r ≡ Bad → broken ≡ field f k
@@ -162,3 +162,12 @@ kind-large s at r kind n x q h =
   where
     past : (m : ℕ) → m < 8 → kind ≡ m → ⊥
     past m l e = omega (arith, e, h, l)
+
+-- ---- the part of the script that holds an expression's bytes
+
+pub tokens-part : (s : List ℕ) (start count : ℕ) → start ≤ length s → count ≤ length s - start
+    → take (start + count - start) (drop start s) ≡ tokensAt s start count
+tokens-part s start count h k =
+    let e : start + count - start ≡ count = omega arith in
+    ap (λ (n : ℕ). take n (drop start s)) e
+    ∙ cond-true (leb start (length s)) _ _ _ (le-leb start (length s) h) (cond-true (leb count (length s - start)) _ _ _ (le-leb count (length s - start) k) refl)

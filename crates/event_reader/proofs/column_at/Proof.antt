@@ -1,7 +1,7 @@
-use Rattle.script.proofs.Chains.{column-named, column-free}
+use Rattle.event_reader.proofs.Chains.{column-named, column-free}
 use borrow.Author.Needs.{needs}
-use Rattle.script.proofs.column_at.Statement.{statement}
-use Rattle.script.proofs.column_at.Tie as tie
+use Rattle.event_reader.proofs.column_at.Statement.{statement}
+use Rattle.event_reader.proofs.column_at.Tie as tie
 
 div-if1 : tie.Need-div-if1
 div-if1 c = search needs

@@ -14,7 +14,7 @@ use Rattle.sensor.specs.Columns.{sensorMasks}
 use Rattle.token_reader.specs.Read.{mostTokenBytes}
 use Rattle.band.specs.Sets.{bandMasks}
 use Rattle.drive.specs.Events.{Event, geometry, transfer}
-use Rattle.script.specs.Fields.{
+use Rattle.event_reader.specs.Fields.{
   Parsed,
   event,
   broken,
@@ -39,8 +39,8 @@ use Rattle.script.specs.Fields.{
   ofKind,
   eventAt,
 }
-use Rattle.script.proofs.Bounds.{NumberIn, number-either, number-at, number-here}
-use Rattle.script.proofs.Chains.{threeAt}
+use Rattle.event_reader.proofs.Bounds.{NumberIn, number-either, number-at, number-here}
+use Rattle.event_reader.proofs.Chains.{threeAt}
 
 -- what was found ends between two places
 

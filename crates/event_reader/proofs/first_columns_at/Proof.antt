@@ -1,8 +1,8 @@
-use Rattle.script.specs.Fields.{firstColumnsAt}
-use Rattle.script.proofs.Chains.{fields}
+use Rattle.event_reader.specs.Fields.{firstColumnsAt}
+use Rattle.event_reader.proofs.Chains.{fields}
 use borrow.Author.Needs.{needs}
-use Rattle.script.proofs.first_columns_at.Statement.{statement}
-use Rattle.script.proofs.first_columns_at.Tie as tie
+use Rattle.event_reader.proofs.first_columns_at.Statement.{statement}
+use Rattle.event_reader.proofs.first_columns_at.Tie as tie
 
 column-at-requires : tie.Need-column-at-requires
 column-at-requires c κs = search needs

@@ -1,8 +1,8 @@
 use Rattle.base.proofs.Cases.{cases}
-use Rattle.script.proofs.Checking.{tokens-part}
+use Rattle.event_reader.proofs.Chains.{tokens-part}
 use borrow.Author.Needs.{needs}
-use Rattle.script.proofs.tokens_at.Statement.{statement}
-use Rattle.script.proofs.tokens_at.Tie as tie
+use Rattle.event_reader.proofs.tokens_at.Statement.{statement}
+use Rattle.event_reader.proofs.tokens_at.Tie as tie
 
 sub-if2 : tie.Need-sub-if2
 sub-if2 c = search needs

@@ -1,8 +1,8 @@
-use Rattle.script.specs.Fields.{elapseAt}
-use Rattle.script.proofs.Chains.{fields}
+use Rattle.event_reader.specs.Fields.{elapseAt}
+use Rattle.event_reader.proofs.Chains.{fields}
 use borrow.Author.Needs.{needs}
-use Rattle.script.proofs.elapse_at.Statement.{statement}
-use Rattle.script.proofs.elapse_at.Tie as tie
+use Rattle.event_reader.proofs.elapse_at.Statement.{statement}
+use Rattle.event_reader.proofs.elapse_at.Tie as tie
 
 number-at-requires : tie.Need-number-at-requires
 number-at-requires c κs = search needs

@@ -1,7 +1,7 @@
-use Rattle.script.proofs.Chains.{no-expression, expression-bad, expression-long, expression-past, expression-cut, expression-is}
+use Rattle.event_reader.proofs.Chains.{no-expression, expression-bad, expression-long, expression-past, expression-cut, expression-is}
 use borrow.Author.Needs.{needs}
-use Rattle.script.proofs.expression_at.Statement.{statement}
-use Rattle.script.proofs.expression_at.Tie as tie
+use Rattle.event_reader.proofs.expression_at.Statement.{statement}
+use Rattle.event_reader.proofs.expression_at.Tie as tie
 
 number-at-requires : tie.Need-number-at-requires
 number-at-requires c κs = search needs

@@ -1,0 +1,3 @@
+pub mod Bounds
+pub mod Chains
+pub mod Progress
