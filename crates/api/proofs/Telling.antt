@@ -10,7 +10,7 @@ use lib.Seq.{take-append-seam}
 use borrow.Author.Tests.{le-leb, lt-leb, ne-eqb}
 use Rattle.answer.specs.Numbers.{numberOf}
 use Rattle.sensor.specs.declared.columns.SensorColumns.{SensorColumns}
-use Rattle.band.specs.declared.BandColumns.{BandColumns}
+use Rattle.band_columns.specs.declared.BandColumns.{BandColumns}
 use Rattle.expression.specs.declared.Element.{Element}
 use Rattle.expression.specs.declared.Expression.{Expression}
 use Rattle.expression.specs.Elements.{blank}

@@ -8,7 +8,7 @@ use Rattle.sensor.specs.declared.columns.SensorColumns.{SensorColumns}
 use Rattle.token_reader.specs.Read.{elements, refusal}
 use Rattle.token_reader.specs.Read.{TokenOutcome}
 use Rattle.token_writer.specs.Write.{codesOf, elementsOf, bytesOf, writeAnswer, writtenAfter, outputAfter}
-use Rattle.band.specs.declared.BandColumns.{BandColumns}
+use Rattle.band_columns.specs.declared.BandColumns.{BandColumns}
 use Rattle.drive.specs.declared.Kind.{Kind}
 use Rattle.drive.specs.declared.Kind.the-variants as K
 use Rattle.drive.specs.State.{headerFits, freshDrive}

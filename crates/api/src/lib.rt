@@ -23,7 +23,7 @@ ghost use Rattle.api.specs.Exports.{
   eventOn,
   eventTold,
 };
-use band::BandColumns;
+use band_columns::BandColumns;
 use drive::Drive;
 use drive::Kind;
 use sensor::SensorColumns;

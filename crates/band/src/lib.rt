@@ -1,12 +1,10 @@
-// One locking row, or band (document 01, 'Bands'; 002, 4.3.4 and 4.3.7): what settling, a reset and a Set make of it.
+// One locking row, or band (document 01, 'Bands'; 002, 4.3.4 and 4.3.7): what settling and a reset make of it.
 ghost use mathlib.Core.Path.{_≡_};
 ghost use mathlib.Core.Bool.{true, cond, _&&_, _||_, not};
 ghost use Prim.Native.Nat.{_<_};
-ghost use lib.Dec.{eqb};
-ghost use Rattle.base.specs.Columns.{named, within};
+ghost use Rattle.base.specs.Columns.{named};
 ghost use Rattle.band.specs.Rows.{freshRow, closedOn, valueIn, withLocked, lockUnder, settleRow, inSet, resetRow};
 ghost use Rattle.band.specs.Parts.{isLockable, locksBy};
-ghost use Rattle.band.specs.Sets.{columnsFit, formedRow, heldBy};
 use expression::Expression;
 
 // A side of a row: what its two lock columns guard.
@@ -23,17 +21,6 @@ pub struct Row {
     pub write_locked: bool,
     pub lock_on_reset: u64,
     pub expression: Expression,
-}
-
-// What a Set carries beside the expression. A column is named by its bit in the mask: 1 ReadLockEnabled, 2 WriteLockEnabled,
-// 4 ReadLocked, 8 WriteLocked, 16 LockOnReset, 32 the expression. A value that is not named is not looked at.
-pub struct BandColumns {
-    pub mask: u64,
-    pub read_lock_enabled: u64,
-    pub write_lock_enabled: u64,
-    pub read_locked: u64,
-    pub write_locked: u64,
-    pub lock_on_reset: u64,
 }
 
 fn and(a: bool, b: bool) -> bool
@@ -162,74 +149,6 @@ impl Row {
         self
     }
 
-    // The row that a Set forms, with the expression that its bytes read to.
-    pub fn form(self, columns: BandColumns, expression: Expression) -> Row
-        ensures { λ r. ⌜ r ≡ formedRow columns expression self ⌝ }
-    {
-        let mask = columns.mask;
-        let old = self.expression;
-        Row {
-            read_lock_enabled: flag(mask, 1, columns.read_lock_enabled, self.read_lock_enabled),
-            write_lock_enabled: flag(mask, 2, columns.write_lock_enabled, self.write_lock_enabled),
-            read_locked: flag(mask, 4, columns.read_locked, self.read_locked),
-            write_locked: flag(mask, 8, columns.write_locked, self.write_locked),
-            lock_on_reset: number(mask, 16, columns.lock_on_reset, self.lock_on_reset),
-            expression: list(mask, 32, expression, old),
-        }
-    }
-
-    // Whether the Set that formed this row is an unlock under a TRUE expression, whose value is given.
-    pub fn held(self, columns: BandColumns, v: bool) -> bool
-        ensures { λ r. ⌜ r ≡ heldBy columns self v ⌝ }
-    {
-        let read = and(
-            names_zero(columns.mask, 4, columns.read_locked),
-            and(self.read_lock_enabled, v),
-        );
-        let write = and(
-            names_zero(columns.mask, 8, columns.write_locked),
-            and(self.write_lock_enabled, v),
-        );
-        or(read, write)
-    }
-}
-
-impl BandColumns {
-    // The masks of six bits are those below.
-    pub const MASKS: u64 = 64;
-
-    // The set of all reset types.
-    pub const ALL_RESETS: u64 = 7;
-
-    // Whether every bit of the mask is known and every named value is in its range.
-    pub fn fit(self) -> bool
-        ensures { λ r. ⌜ r ≡ columnsFit self ⌝ }
-    {
-        let mask = self.mask;
-        if BandColumns::MASKS <= mask {
-            return false;
-        }
-        if !in_range(mask, 1, self.read_lock_enabled, 1) {
-            return false;
-        }
-        if !in_range(mask, 2, self.write_lock_enabled, 1) {
-            return false;
-        }
-        if !in_range(mask, 4, self.read_locked, 1) {
-            return false;
-        }
-        if !in_range(mask, 8, self.write_locked, 1) {
-            return false;
-        }
-        in_range(mask, 16, self.lock_on_reset, BandColumns::ALL_RESETS)
-    }
-
-    // Whether the Set names the expression.
-    pub fn names_expression(self) -> bool
-        ensures { λ r. ⌜ r ≡ named 32 (self .mask) ⌝ }
-    {
-        has(self.mask, 32)
-    }
 }
 
 // Whether a LockOnReset set holds a reset type.
@@ -242,54 +161,4 @@ fn in_set(set: u64, reset_type: u64) -> bool
         2 => has(set, 4),
         _ => false,
     }
-}
-
-// Whether a value is at most `most`, where the mask names it.
-fn in_range(mask: u64, bit: u64, value: u64, most: u64) -> bool
-    requires { ⌜ 0 < bit ⌝ }
-    ensures { λ r. ⌜ r ≡ within most (named bit mask) value ⌝ }
-{
-    if has(mask, bit) {
-        return value <= most;
-    }
-    true
-}
-
-// Whether a Set names a column as 0.
-fn names_zero(mask: u64, bit: u64, value: u64) -> bool
-    requires { ⌜ 0 < bit ⌝ }
-    ensures { λ r. ⌜ r ≡ (named bit mask && eqb value 0) ⌝ }
-{
-    and(has(mask, bit), value == 0)
-}
-
-// A column after a Set, for each type of column: the value where the mask names it, else as it was.
-fn flag(mask: u64, bit: u64, value: u64, former: bool) -> bool
-    requires { ⌜ 0 < bit ⌝ }
-    ensures { λ r. ⌜ r ≡ cond (named bit mask) (eqb value 1) former ⌝ }
-{
-    if has(mask, bit) {
-        return value == 1;
-    }
-    former
-}
-
-fn number(mask: u64, bit: u64, value: u64, former: u64) -> u64
-    requires { ⌜ 0 < bit ⌝ }
-    ensures { λ r. ⌜ r ≡ cond (named bit mask) value former ⌝ }
-{
-    if has(mask, bit) {
-        return value;
-    }
-    former
-}
-
-fn list(mask: u64, bit: u64, value: Expression, former: Expression) -> Expression
-    requires { ⌜ 0 < bit ⌝ }
-    ensures { λ r. ⌜ r ≡ cond (named bit mask) value former ⌝ }
-{
-    if has(mask, bit) {
-        return value;
-    }
-    former
 }

@@ -28,9 +28,9 @@ use Rattle.evaluator.specs.Value.{valueOf, mentions}
 use Rattle.evaluator.proofs.Mentions.{value-same}
 use Rattle.token_reader.specs.Read.{TokenOutcome, elements, refusal, readTokens, expressionIn}
 use Rattle.band.specs.declared.Row.{Row}
-use Rattle.band.specs.declared.BandColumns.{BandColumns}
+use Rattle.band_columns.specs.declared.BandColumns.{BandColumns}
 use Rattle.band.specs.Rows.{freshRow, valueIn, lockUnder, settleRow, inSet, resetRow}
-use Rattle.band.specs.Sets.{formedRow, heldBy}
+use Rattle.band_columns.specs.Sets.{formedRow, heldBy}
 use Rattle.band.proofs.Settling.{settle-again, fresh-settles, fresh-reset}
 use Rattle.drive.specs.declared.Drive.{Drive}
 use Rattle.drive.specs.State.{withRows, withSensors, conditionsOf, rowAt, valueAt, settleOf, tickOf}

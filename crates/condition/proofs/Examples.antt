@@ -18,8 +18,8 @@ use Rattle.token_reader.specs.Read.{readElements, readList, readTokens}
 use Rattle.band.specs.declared.Side.{Side}
 use Rattle.band.specs.declared.Side.the-variants.{Read, Write}
 use Rattle.band.specs.Rows.{freshRow, lockedOn, settleRow, resetRow}
-use Rattle.band.specs.Sets.{formedRow}
-use Rattle.band.specs.Sets.{columnsFit as bandColumnsFit}
+use Rattle.band_columns.specs.Sets.{formedRow}
+use Rattle.band_columns.specs.Sets.{columnsFit as bandColumnsFit}
 use Rattle.geometry.specs.Blocks.{anyBlock, bandOf}
 use Rattle.drive.specs.declared.Drive.{Drive}
 use Rattle.drive.specs.State.{freshDrive, rowAt, conditionsOf, settleOf, tickOf}

@@ -17,9 +17,9 @@ use Rattle.base.proofs.Rows.{modify-same, modify-other}
 use Rattle.band.specs.declared.Side.{Side}
 use Rattle.band.specs.declared.Side.the-variants.{Read, Write}
 use Rattle.band.specs.declared.Row.{Row}
-use Rattle.band.specs.declared.BandColumns.{BandColumns}
+use Rattle.band_columns.specs.declared.BandColumns.{BandColumns}
 use Rattle.band.specs.Rows.{freshRow, enabledOn, lockedOn, lockUnder, settleRow, inSet, resetRow}
-use Rattle.band.specs.Sets.{columnsFit, formedRow, lockedNamed, lockedValue, namesLocked}
+use Rattle.band_columns.specs.Sets.{columnsFit, formedRow, lockedNamed, lockedValue, namesLocked}
 use Rattle.drive.specs.declared.Drive.{Drive}
 use Rattle.drive.specs.State.{freshDrive, conditionsOf, rowAt, valueAt, settleOf, fallOf, tickOf}
 use Rattle.drive.specs.Events.{Event, reading, elapse, reset, sensorSet, bandSet, geometry, transfer, formedFrom, answerOf, actOf, stepOf, runOf}

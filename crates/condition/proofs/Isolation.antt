@@ -9,7 +9,7 @@ use Rattle.base.specs.Lists.{any}
 use Rattle.base.proofs.Cases.{and-no, or-yes, or-second}
 use Rattle.base.proofs.Lists.{getD-same}
 use Rattle.evaluator.specs.Value.{mentions}
-use Rattle.band.specs.declared.BandColumns.{BandColumns}
+use Rattle.band_columns.specs.declared.BandColumns.{BandColumns}
 use Rattle.band.specs.Rows.{freshRow}
 use Rattle.band.proofs.Settling.{fresh-settles}
 use Rattle.drive.specs.declared.Drive.{Drive}

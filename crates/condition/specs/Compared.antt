@@ -7,7 +7,7 @@ use Rattle.base.specs.Lists.{any}
 use Rattle.base.specs.Columns.{named}
 use Rattle.evaluator.specs.Value.{mentions}
 use Rattle.token_reader.specs.Read.{TokenOutcome, elements, refusal, readTokens}
-use Rattle.band.specs.declared.BandColumns.{BandColumns}
+use Rattle.band_columns.specs.declared.BandColumns.{BandColumns}
 use Rattle.drive.specs.declared.Drive.{Drive}
 use Rattle.drive.specs.Events.{Event, Shape, ticking, resetting, setting, sensing, placing, looking, shapeOf, answerOf, stepOf}
 use Rattle.condition.specs.History.{ownSet}

@@ -6,9 +6,9 @@ use mathlib.Core.List.{List, [], _∷_, _++_}
 use lib.Dec.{eqb}
 use Rattle.base.specs.Lists.{any}
 use Rattle.band.specs.declared.Side.{Side}
-use Rattle.band.specs.declared.BandColumns.{BandColumns}
+use Rattle.band_columns.specs.declared.BandColumns.{BandColumns}
 use Rattle.band.specs.Rows.{enabledOn, inSet}
-use Rattle.band.specs.Sets.{namesLocked}
+use Rattle.band_columns.specs.Sets.{namesLocked}
 use Rattle.drive.specs.declared.Drive.{Drive}
 use Rattle.drive.specs.State.{rowAt, valueAt, tickOf}
 use Rattle.drive.specs.Events.{Event, shapeOf, ifTicking, ifResetting, ifSetting, answerOf, stepOf}

@@ -14,7 +14,7 @@ use Rattle.sensor.specs.declared.columns.SensorColumns.{SensorColumns}
 use Rattle.sensor.specs.Single.{readingAnswer}
 use Rattle.sensor.specs.Columns.{setAnswer}
 use Rattle.band.specs.declared.Side.{Side}
-use Rattle.band.specs.declared.BandColumns.{BandColumns}
+use Rattle.band_columns.specs.declared.BandColumns.{BandColumns}
 use Rattle.band.specs.Rows.{closedOn}
 use Rattle.geometry.specs.Events.{placeAnswer, transferAnswer}
 use Rattle.drive.specs.declared.Drive.{Drive}

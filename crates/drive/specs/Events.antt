@@ -19,10 +19,10 @@ use Rattle.token_reader.specs.Read.{mostTokenBytes, readTokens, answerIn, expre
 use Rattle.band.specs.declared.Side.{Side}
 use Rattle.band.specs.declared.Side.the-variants.{Read, Write}
 use Rattle.band.specs.declared.Row.{Row}
-use Rattle.band.specs.declared.BandColumns.{BandColumns}
+use Rattle.band_columns.specs.declared.BandColumns.{BandColumns}
 use Rattle.band.specs.Rows.{closedOn, valueIn, lastResetType, resetRow}
-use Rattle.band.specs.Sets.{formedRow, heldBy}
-use Rattle.band.specs.Sets.{columnsFit as bandColumnsFit}
+use Rattle.band_columns.specs.Sets.{formedRow, heldBy}
+use Rattle.band_columns.specs.Sets.{columnsFit as bandColumnsFit}
 use Rattle.geometry.specs.Events.{placeRefusals, transferRefusals, placed}
 use Rattle.drive.specs.declared.Drive.{Drive}
 use Rattle.drive.specs.declared.Kind.{Kind}

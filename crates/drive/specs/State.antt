@@ -36,9 +36,12 @@ freshDrive capacity bands sensors = record {
 
 -- "A call that gives, outside a script, a header out of range .. gets 2; the fresh call then hands back a fresh drive of capacity 1, one
 -- band and no sensors."
+abbrev pub freshOf : ℕ → ℕ → ℕ → Drive
+freshOf capacity bands sensors = cond (headerFits capacity bands sensors) (freshDrive capacity bands sensors) (freshDrive 1 1 0)
+
 pub record Freshens (capacity bands sensors : ℕ) (r : Fresh) : Type 0 where
   pub answer : numberOf (r .answer) ≡ cond (headerFits capacity bands sensors) 0 2
-  pub drive : r .drive ≡ cond (headerFits capacity bands sensors) (freshDrive capacity bands sensors) (freshDrive 1 1 0)
+  pub drive : r .drive ≡ freshOf capacity bands sensors
 
 -- the drive with other rows, other spans or other sensors
 

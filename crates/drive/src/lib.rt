@@ -15,7 +15,7 @@ ghost use Rattle.drive.specs.State.{
   Freshens,
 };
 use answer::Answer;
-use band::BandColumns;
+use band_columns::BandColumns;
 use band::Row;
 use band::Side;
 use expression::Expression;

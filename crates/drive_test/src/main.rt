@@ -1,7 +1,7 @@
 // Runs the scripts of standard input, each after its length in four bytes, low first, by the drive's own events: each event by value, on the
 // drive that the last one left. Prints for each a line with its number and then the listing of document 01. Then calls that no script makes.
 use answer::Answer;
-use band::BandColumns;
+use band_columns::BandColumns;
 use band::Row;
 use drive::Drive;
 use drive::Kind;

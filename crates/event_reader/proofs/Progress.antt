@@ -12,7 +12,7 @@ use Rattle.base.proofs.Cases.{cond-either}
 use Rattle.numbers.specs.Groups.{Found, found, none, numberAt}
 use Rattle.sensor.specs.Columns.{sensorMasks}
 use Rattle.token_reader.specs.Read.{mostTokenBytes}
-use Rattle.band.specs.Sets.{bandMasks}
+use Rattle.band_columns.specs.Sets.{bandMasks}
 use Rattle.drive.specs.Events.{Event, geometry, transfer}
 use Rattle.event_reader.specs.Fields.{
   Parsed,

@@ -8,7 +8,7 @@ use Rattle.base.specs.Columns.{named}
 use Rattle.numbers.specs.Groups.{Found, found, none, numberAt}
 use Rattle.sensor.specs.Columns.{sensorMasks}
 use Rattle.token_reader.specs.Read.{mostTokenBytes}
-use Rattle.band.specs.Sets.{bandMasks}
+use Rattle.band_columns.specs.Sets.{bandMasks}
 use Rattle.drive.specs.Events.{Event, reading, elapse, reset, sensorSet, bandSet, geometry, transfer, eventOf}
 use Rattle.event_reader.specs.declared.EventRead.{EventRead}
 use Rattle.event_reader.specs.declared.EventRead.the-variants as R

@@ -6,7 +6,7 @@ ghost use lib.Dec.{eqb};
 ghost use Rattle.numbers.specs.Groups.{foundIn};
 ghost use Rattle.event_reader.specs.Fields.{columnAt, Follow, firstColumnsAt, expressionAt, parsedIn, readingAt, elapseAt, resetAt, sensorSetAt, bandSetAt, geometryAt, transferAt, eventAt};
 ghost use Rattle.event_reader.specs.Parts.{firstColumnsIn, bytesReadIn};
-use band::BandColumns;
+use band_columns::BandColumns;
 use drive::Kind;
 use numbers::Number;
 use sensor::SensorColumns;

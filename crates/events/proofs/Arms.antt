@@ -20,7 +20,7 @@ use Rattle.sensor.specs.Single.{freshSensor, readingAnswer, readingOf, powerCyc
 use Rattle.sensor.specs.Columns.{setAnswer, setOf}
 use Rattle.band.specs.declared.Side.{Side}
 use Rattle.band.specs.declared.Row.{Row}
-use Rattle.band.specs.declared.BandColumns.{BandColumns}
+use Rattle.band_columns.specs.declared.BandColumns.{BandColumns}
 use Rattle.band.specs.Rows.{freshRow, closedOn, resetRow}
 use Rattle.geometry.specs.declared.Span.{Span}
 use Rattle.geometry.specs.declared.Placed.{Placed}

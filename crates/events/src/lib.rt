@@ -13,7 +13,7 @@ ghost use Rattle.drive.specs.Events.{Event as E};
 ghost use Rattle.elapse.specs.Jumps.{running};
 ghost use Rattle.events.specs.Parts.{refused, granting, Stores};
 use answer::Answer;
-use band::BandColumns;
+use band_columns::BandColumns;
 use band::Row;
 use drive::Drive;
 use drive::Kind;

@@ -26,7 +26,7 @@ use Rattle.sensors.specs.Sixteen.{Passes}
 use Rattle.sensors.specs.Parts.{quietTicks}
 use Rattle.sensors.proofs.Quiet.{AllQuiet, quietTicks-le, quietTicks-quiet, sensors-jump}
 use Rattle.band.specs.declared.Row.{Row}
-use Rattle.band.specs.declared.BandColumns.{BandColumns}
+use Rattle.band_columns.specs.declared.BandColumns.{BandColumns}
 use Rattle.band.specs.declared.Side.{Side}
 use Rattle.band.specs.Rows.{closedOn, settleRow}
 use Rattle.band.specs.Parts.{isLockable}

@@ -13,7 +13,7 @@ use Rattle.band.specs.Parts.{isLockable}
 use Rattle.drive.specs.declared.Drive.{Drive}
 use Rattle.drive.specs.declared.Fresh.{Fresh}
 use Rattle.drive.specs.declared.Kind.{Kind}
-use Rattle.drive.specs.State.{Freshens, settleOf}
+use Rattle.drive.specs.State.{Freshens, freshOf, settleOf}
 use Rattle.drive.specs.Events.{Event, eventOf, answerOf, stopsOf, stepOf, runOf, along, answersOf, stopsIn, over}
 use Rattle.elapse.specs.declared.Elapsed.{Elapsed}
 use Rattle.elapse.specs.Jumps.{Elapses}
@@ -21,7 +21,7 @@ use Rattle.event_reader.specs.declared.EventRead.{EventRead}
 use Rattle.event_reader.specs.declared.EventRead.the-variants as R
 use Rattle.event_reader.specs.Fields.{Parsed, event, broken, parsedIn, tokensAt, eventAt}
 use Rattle.in_place.specs.declared.Change.{Change}
-use Rattle.in_place.specs.FirstEvents.{thenMore, firstEvents, after, eventsRun, freshOf, firstEventsRun}
+use Rattle.in_place.specs.FirstEvents.{thenMore, firstEvents, after, eventsRun, firstEventsRun}
 use Rattle.in_place.specs.Parts.{changeOf}
 use Rattle.in_place.specs.Parts.{SettledSixteen}
 use Rattle.base.proofs.Lists.{few-counted}

@@ -24,7 +24,7 @@ use Rattle.sensors.specs.Sixteen.{conditionsBelow}
 use Rattle.sensors.specs.Parts.{quietTicks}
 use Rattle.sensors.proofs.Quiet.{AllQuiet, quietTicks-le, quietTicks-quiet, sensors-jump}
 use Rattle.band.specs.declared.Row.{Row}
-use Rattle.band.specs.declared.BandColumns.{BandColumns}
+use Rattle.band_columns.specs.declared.BandColumns.{BandColumns}
 use Rattle.band.specs.Rows.{freshRow, closedOn, settleRow, inSet, resetRow}
 use Rattle.band.specs.Parts.{isLockable}
 use Rattle.band.proofs.Settling.{no-type}

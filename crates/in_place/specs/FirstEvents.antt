@@ -5,7 +5,6 @@ use mathlib.Core.List.{List, [], _∷_}
 use lib.Dec.{leb}
 use lib.ListN.{length}
 use Rattle.drive.specs.declared.Drive.{Drive}
-use Rattle.drive.specs.State.{headerFits, freshDrive}
 use Rattle.drive.specs.Events.{Event, runOf, answersOf, stopsIn, over}
 use Rattle.event_reader.specs.Fields.{Parsed, event, broken, eventAt}
 
@@ -26,10 +25,6 @@ pub data AfterEvents : Type 0 where
 -- a list of events run from a drive: the drive that they leave, and a byte for each in both buffers
 abbrev pub eventsRun : Drive → List Event → List ℕ → List ℕ → AfterEvents
 eventsRun d es answers stops = after (runOf d es) (over (answersOf d es) answers) (over (stopsIn d es) stops)
-
--- the fresh drive of a header; one of capacity 1, one band and no sensors where the header is out of range
-abbrev pub freshOf : ℕ → ℕ → ℕ → Drive
-freshOf capacity bands sensors = cond (headerFits capacity bands sensors) (freshDrive capacity bands sensors) (freshDrive 1 1 0)
 
 -- at most so many events of a script from a place on, run from a drive; none where a buffer has fewer bytes than that
 abbrev pub firstEventsRun : List ℕ → ℕ → ℕ → Drive → List ℕ → List ℕ → AfterEvents

@@ -15,7 +15,7 @@ use Rattle.sensor.specs.declared.single.Sensor.{Sensor}
 use Rattle.sensor.specs.Single.{sensorTick, endsNext}
 use Rattle.sensors.specs.Parts.{quietTicks}
 use Rattle.band.specs.declared.Row.{Row}
-use Rattle.band.specs.declared.BandColumns.{BandColumns}
+use Rattle.band_columns.specs.declared.BandColumns.{BandColumns}
 use Rattle.band.specs.Rows.{settleRow, lastResetType}
 use Rattle.band.specs.Parts.{isLockable}
 use Rattle.drive.specs.declared.Drive.{Drive}

@@ -25,9 +25,9 @@ use Rattle.token_reader.specs.Format.{Bytes}
 use Rattle.token_reader.specs.Read.{TokenOutcome, elements, refusal, readTokens, expressionIn}
 use Rattle.token_reader.proofs.Fits.{read-fits}
 use Rattle.band.specs.declared.Row.{Row}
-use Rattle.band.specs.declared.BandColumns.{BandColumns}
+use Rattle.band_columns.specs.declared.BandColumns.{BandColumns}
 use Rattle.band.specs.Rows.{freshRow, withLocked, lockUnder, settleRow, inSet, resetRow}
-use Rattle.band.specs.Sets.{columnsFit, formedRow}
+use Rattle.band_columns.specs.Sets.{columnsFit, formedRow}
 use Rattle.band.proofs.Settling.{fresh-settles, fresh-reset}
 use Rattle.geometry.specs.declared.Span.{Span}
 use Rattle.geometry.specs.Blocks.{bandSpans, overlapping}

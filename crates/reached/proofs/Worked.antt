@@ -26,8 +26,8 @@ use Rattle.token_reader.specs.Format.{startsWith, partIn, isEnd}
 use Rattle.token_reader.specs.Read.{readElements, readList, readTokens}
 use Rattle.token_writer.specs.Write.{bodyOf}
 use Rattle.band.specs.Rows.{freshRow, settleRow}
-use Rattle.band.specs.Sets.{formedRow}
-use Rattle.band.specs.Sets.{columnsFit as bandColumnsFit}
+use Rattle.band_columns.specs.Sets.{formedRow}
+use Rattle.band_columns.specs.Sets.{columnsFit as bandColumnsFit}
 use Rattle.geometry.specs.Blocks.{anyBlock}
 use Rattle.geometry.specs.Events.{noSpan}
 use Rattle.drive.specs.State.{freshDrive, settleOf, tickOf, stopNext}

@@ -16,7 +16,7 @@ use Rattle.expression.specs.Elements.{element, elementsIn}
 use Rattle.evaluator.specs.Value.{valueOf}
 use Rattle.token_reader.specs.Read.{readTokens, elements}
 use Rattle.token_writer.specs.Write.{bytesOf}
-use Rattle.band.specs.declared.BandColumns.{BandColumns}
+use Rattle.band_columns.specs.declared.BandColumns.{BandColumns}
 use Rattle.drive.specs.declared.Drive.{Drive}
 use Rattle.drive.specs.State.{freshDrive, rowAt}
 use Rattle.drive.specs.Events.{reading, elapse, sensorSet, bandSet, geometry, transfer, answerOf, stepOf, stopsOf, runOf}

@@ -19,10 +19,10 @@ use Rattle.token_reader.specs.declared.Tokens.{Tokens}
 use Rattle.token_reader.specs.Read.{readTokens, expressionIn, answerIn, Reads}
 use Rattle.token_reader.proofs.Numbers.{DoneOrBroken, read-numbers}
 use Rattle.band.specs.declared.Row.{Row}
-use Rattle.band.specs.declared.BandColumns.{BandColumns}
+use Rattle.band_columns.specs.declared.BandColumns.{BandColumns}
 use Rattle.band.specs.Rows.{valueIn}
-use Rattle.band.specs.Sets.{formedRow, heldBy}
-use Rattle.band.specs.Sets.{columnsFit as bandColumnsFit}
+use Rattle.band_columns.specs.Sets.{formedRow, heldBy}
+use Rattle.band_columns.specs.Sets.{columnsFit as bandColumnsFit}
 use Rattle.drive.specs.Events.{tokensAnswer, formedFrom, heldUnder}
 use Rattle.row_set.specs.declared.RowAnswer.{RowAnswer}
 use Rattle.row_set.specs.Forming.{rowAnswer, SetsRow}

@@ -7,7 +7,7 @@ use lib.Dec.{eqb}
 use Rattle.base.specs.Refusals.{firstOf}
 use Rattle.answer.specs.Numbers.{numberOf}
 use Rattle.band.specs.declared.Row.{Row}
-use Rattle.band.specs.declared.BandColumns.{BandColumns}
+use Rattle.band_columns.specs.declared.BandColumns.{BandColumns}
 use Rattle.drive.specs.Events.{formedFrom, rowRefusals}
 use Rattle.row_set.specs.declared.RowAnswer.{RowAnswer}
 

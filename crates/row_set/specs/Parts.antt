@@ -10,8 +10,8 @@ use Rattle.expression.specs.Elements.{expressionOf}
 use Rattle.token_reader.specs.declared.Tokens.{Tokens}
 use Rattle.token_reader.specs.Read.{readTokens, expressionIn}
 use Rattle.band.specs.declared.Row.{Row}
-use Rattle.band.specs.declared.BandColumns.{BandColumns}
-use Rattle.band.specs.Sets.{formedRow}
+use Rattle.band_columns.specs.declared.BandColumns.{BandColumns}
+use Rattle.band_columns.specs.Sets.{formedRow}
 use Rattle.drive.specs.Events.{tokensAnswer, heldUnder}
 use Rattle.row_set.specs.declared.RowAnswer.{RowAnswer}
 

@@ -3,11 +3,11 @@ ghost use mathlib.Core.Bool.{not, _||_};
 ghost use mathlib.Core.Path.{_≡_};
 ghost use lib.Dec.{ltb};
 ghost use lib.ListN.{length};
-ghost use Rattle.band.specs.Sets.{columnsFit};
+ghost use Rattle.band_columns.specs.Sets.{columnsFit};
 ghost use Rattle.row_set.specs.Forming.{SetsRow};
 ghost use Rattle.row_set.specs.Parts.{TokensFor, Forms};
 use answer::Answer;
-use band::BandColumns;
+use band_columns::BandColumns;
 use band::Row;
 use expression::Expression;
 use token_reader::Tokens;
@@ -46,9 +46,9 @@ fn tokens_for(columns: BandColumns, tokens: &[u8]) -> Tokens
 fn form(row: Row, conditions: [bool; 16], columns: BandColumns, expression: Expression) -> RowAnswer
     ensures { λ r. ⌜ Forms conditions columns expression row r ⌝ }
 {
-    let new = row.form(columns, expression);
+    let new = band_columns::form(row, columns, expression);
     let v = new.value(conditions);
-    if new.held(columns, v) {
+    if band_columns::held(new, columns, v) {
         return RowAnswer {
             answer: Answer::Held,
             row,

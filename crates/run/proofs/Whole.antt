@@ -12,7 +12,7 @@ use Rattle.answer.specs.declared.Answer.the-variants.{Done, BadScript, ShortBuf
 use Rattle.answer.specs.Numbers.{numberOf}
 use Rattle.drive.specs.declared.Drive.{Drive}
 use Rattle.drive.specs.declared.Fresh.{Fresh}
-use Rattle.drive.specs.State.{headerFits, freshDrive, Freshens}
+use Rattle.drive.specs.State.{headerFits, freshDrive, freshOf, Freshens}
 use Rattle.drive.specs.Events.{Event, runOf, answersOf, stopsIn, over}
 use Rattle.numbers.specs.Groups.{Found, found, none, numberAt}
 use Rattle.script.specs.declared.HeaderRead.{HeaderRead}
@@ -23,7 +23,7 @@ use Rattle.script.specs.Events.{Events, events, badFrom}
 use Rattle.script.specs.Whole.{Header, header, noHeader, fieldHeader, headerIn, headerAt, Script, accepted, bad, withEvents, withHeader, readScript, reads, badAt, checkedIn, checkScript, checkOf}
 use Rattle.script.specs.Parts.{eventsFrom}
 use Rattle.run.specs.declared.Ran.{Ran}
-use Rattle.in_place.specs.FirstEvents.{firstEvents, after, eventsRun, freshOf, firstEventsRun}
+use Rattle.in_place.specs.FirstEvents.{firstEvents, after, eventsRun, firstEventsRun}
 use Rattle.run.specs.Outcome.{outcomeIn, refusedRun, runEvents, runScript}
 use Rattle.run.specs.Parts.{fewerOf, Refuses, RunsFirst}
 use Rattle.run.proofs.Taken.{taken}

@@ -1,7 +1,7 @@
-use Rattle.band.specs.Sets.{formedRow}
+use Rattle.band_columns.specs.Sets.{formedRow}
 use borrow.Author.Needs.{needs}
-use Rattle.band.proofs.Row.form.Statement.{statement}
-use Rattle.band.proofs.Row.form.Tie as tie
+use Rattle.band_columns.proofs.form.Statement.{statement}
+use Rattle.band_columns.proofs.form.Tie as tie
 
 flag-requires : tie.Need-flag-requires
 flag-requires c κs = search needs

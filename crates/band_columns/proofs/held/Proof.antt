@@ -1,6 +1,6 @@
 use borrow.Author.Needs.{needs}
-use Rattle.band.proofs.Row.held.Statement.{statement}
-use Rattle.band.proofs.Row.held.Tie as tie
+use Rattle.band_columns.proofs.held.Statement.{statement}
+use Rattle.band_columns.proofs.held.Tie as tie
 
 names-zero-requires : tie.Need-names-zero-requires
 names-zero-requires c κs = search needs

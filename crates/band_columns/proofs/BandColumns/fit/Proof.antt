@@ -1,8 +1,8 @@
-use Rattle.band.specs.Sets.{columnsFit}
+use Rattle.band_columns.specs.Sets.{columnsFit}
 use Rattle.base.proofs.Cases.{tests}
 use borrow.Author.Needs.{needs}
-use Rattle.band.proofs.BandColumns.fit.Statement.{statement}
-use Rattle.band.proofs.BandColumns.fit.Tie as tie
+use Rattle.band_columns.proofs.BandColumns.fit.Statement.{statement}
+use Rattle.band_columns.proofs.BandColumns.fit.Tie as tie
 
 pub fit-spec : {M : Type 1} → statement M
 unfolding columnsFit

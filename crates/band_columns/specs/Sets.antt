@@ -4,11 +4,11 @@ use mathlib.Core.Bool.{Bool, cond, _&&_, _||_}
 use lib.Dec.{eqb, ltb}
 use Rattle.base.specs.Columns.{named, within}
 use Rattle.expression.specs.declared.Expression.{Expression}
 use Rattle.band.specs.declared.Side.{Side}
 use Rattle.band.specs.declared.Side.the-variants.{Read, Write}
 use Rattle.band.specs.declared.Row.{Row}
-use Rattle.band.specs.declared.BandColumns.{BandColumns}
+use Rattle.band_columns.specs.declared.BandColumns.{BandColumns}
 use Rattle.band.specs.Rows.{allResets, enabledOn}
 
 -- the masks of six bits are those below
 abbrev pub bandMasks : ℕ
