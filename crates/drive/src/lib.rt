@@ -21,7 +21,7 @@ use band::Side;
 use expression::Expression;
 use geometry::Span;
 use sensor::Sensor;
-use sensor::SensorColumns;
+use sensor_set::SensorColumns;
 
 // Sixteen rows, spans and sensors, whatever the header counts: the first `band_count` and `sensor_count` of them are in use.
 pub struct Drive {

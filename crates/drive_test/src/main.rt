@@ -8,7 +8,7 @@ use drive::Kind;
 use script::EventRead;
 use script::HeaderRead;
 use sensor::Sensor;
-use sensor::SensorColumns;
+use sensor_set::SensorColumns;
 
 const MOST: u64 = 18_446_744_073_709_551_615;
 

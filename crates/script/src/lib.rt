@@ -12,7 +12,7 @@ use band::BandColumns;
 use drive::Drive;
 use drive::Kind;
 use numbers::Number;
-use sensor::SensorColumns;
+use sensor_set::SensorColumns;
 
 // What reading at a place finds: an event, where its expression's bytes start and how many they are, and the place after it.
 pub enum EventRead {
