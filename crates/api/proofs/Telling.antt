@@ -9,7 +9,7 @@ use lib.ListN.{length, getD, take, replicate, length-append, length-map, length-
 use lib.Seq.{take-append-seam}
 use borrow.Author.Tests.{le-leb, lt-leb, ne-eqb}
 use Rattle.answer.specs.Numbers.{numberOf}
-use Rattle.sensor.specs.declared.columns.SensorColumns.{SensorColumns}
+use Rattle.sensor_set.specs.declared.SensorColumns.{SensorColumns}
 use Rattle.band_columns.specs.declared.BandColumns.{BandColumns}
 use Rattle.expression.specs.declared.Element.{Element}
 use Rattle.expression.specs.declared.Expression.{Expression}

@@ -4,7 +4,7 @@ use mathlib.Core.Bool.{cond, _&&_}
 use mathlib.Core.List.{List}
 use lib.Dec.{eqb, leb}
 use lib.ListN.{length, getD}
-use Rattle.sensor.specs.declared.columns.SensorColumns.{SensorColumns}
+use Rattle.sensor_set.specs.declared.SensorColumns.{SensorColumns}
 use Rattle.token_reader.specs.Read.{elements, refusal}
 use Rattle.token_reader.specs.Read.{TokenOutcome}
 use Rattle.token_writer.specs.Write.{codesOf, elementsOf, bytesOf, writeAnswer, writtenAfter, outputAfter}

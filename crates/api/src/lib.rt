@@ -26,7 +26,7 @@ ghost use Rattle.api.specs.Exports.{
 use band_columns::BandColumns;
 use drive::Drive;
 use drive::Kind;
-use sensor::SensorColumns;
+use sensor_set::SensorColumns;
 
 // The listing of a script, from the output's start, and its length.
 #[no_mangle]

@@ -148,7 +148,6 @@ impl Row {
         }
         self
     }
-
 }
 
 // Whether a LockOnReset set holds a reset type.

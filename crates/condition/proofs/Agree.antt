@@ -18,7 +18,7 @@ use Rattle.base.proofs.Rows.{apart, modify-agree, modify-other, modify-keeps, l
 use Rattle.sensor.specs.declared.single.Sensor.{Sensor}
 use Rattle.sensor.specs.Single.{freshSensor, readingRefusals, powerCycleOf}
 use Rattle.sensor.specs.Single.{sensorTick}
-use Rattle.sensor.specs.Columns.{setRefusals, sensorAfter}
+use Rattle.sensor_set.specs.Columns.{setRefusals, sensorAfter}
 use Rattle.sensor.proofs.Motion.{fresh-tick, fresh-power-cycle}
 use Rattle.sensors.specs.Sixteen.{conditionsBelow}
 use Rattle.sensors.proofs.Gather.{condition-below, condition-past}

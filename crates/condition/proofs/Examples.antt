@@ -9,8 +9,8 @@ use Rattle.phases.specs.Phases.{moveOf}
 use Rattle.sensor.specs.Level.{levelRule}
 use Rattle.sensor.specs.Single.{freshSensor, judgeOf, turnedTo, readingOf, enableOf}
 use Rattle.sensor.specs.Single.{afterCause, sensorTick}
-use Rattle.sensor.specs.Columns.{storedOf, switchedOf, setOf}
-use Rattle.sensor.specs.Columns.{columnsFit as sensorColumnsFit}
+use Rattle.sensor_set.specs.Columns.{storedOf, switchedOf, setOf}
+use Rattle.sensor_set.specs.Columns.{columnsFit as sensorColumnsFit}
 use Rattle.sensors.specs.Sixteen.{conditionsBelow}
 use Rattle.evaluator.specs.Value.{evaluate, valueOf, mentions}
 use Rattle.token_reader.specs.Format.{startsWith, partIn, isEnd}

@@ -10,9 +10,9 @@ use Rattle.base.specs.Refusals.{firstOf}
 use Rattle.base.specs.Rows.{isRow}
 use Rattle.base.proofs.Cases.{cond-true, cond-false}
 use Rattle.base.proofs.Refusals.{appliesAt, numbersBelow, risingFrom, none-applies, first-below, rising-lowest}
-use Rattle.sensor.specs.declared.columns.SensorColumns.{SensorColumns}
+use Rattle.sensor_set.specs.declared.SensorColumns.{SensorColumns}
 use Rattle.sensor.specs.Single.{readingAnswer}
-use Rattle.sensor.specs.Columns.{setAnswer}
+use Rattle.sensor_set.specs.Columns.{setAnswer}
 use Rattle.band.specs.declared.Side.{Side}
 use Rattle.band_columns.specs.declared.BandColumns.{BandColumns}
 use Rattle.band.specs.Rows.{closedOn}

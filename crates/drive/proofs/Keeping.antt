@@ -13,8 +13,8 @@ use Rattle.base.proofs.Rows.{length-modify, modify-keeps, map-keeps}
 use Rattle.sensor.specs.declared.single.Sensor.{Sensor}
 use Rattle.sensor.specs.Single.{freshSensor, powerCycleOf}
 use Rattle.sensor.specs.Single.{sensorTick}
-use Rattle.sensor.specs.Columns.{sensorAfter}
-use Rattle.sensor.proofs.Keeping.{Keeps}
+use Rattle.sensor_set.specs.Columns.{sensorAfter}
+use Rattle.sensor_set.proofs.Keeping.{Keeps}
 use Rattle.band.specs.declared.Row.{Row}
 use Rattle.geometry.specs.declared.Span.{Span}
 use Rattle.drive.specs.declared.Drive.{Drive}

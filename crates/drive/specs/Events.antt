@@ -10,11 +10,11 @@ use Rattle.base.specs.Columns.{named}
 use Rattle.base.specs.Refusals.{Refusal, when, firstOf, LowestOf}
 use Rattle.base.specs.Rows.{isRow, modify}
 use Rattle.answer.specs.Numbers.{numberOf}
-use Rattle.sensor.specs.declared.columns.SensorColumns.{SensorColumns}
+use Rattle.sensor_set.specs.declared.SensorColumns.{SensorColumns}
 use Rattle.sensor.specs.Single.{readingRefusals, powerCycleOf}
-use Rattle.sensor.specs.declared.columns.SensorEvent.{SensorEvent}
-use Rattle.sensor.specs.declared.columns.SensorEvent.the-variants as S
-use Rattle.sensor.specs.Columns.{setRefusals, sensorAfter}
+use Rattle.sensor_set.specs.declared.SensorEvent.{SensorEvent}
+use Rattle.sensor_set.specs.declared.SensorEvent.the-variants as S
+use Rattle.sensor_set.specs.Columns.{setRefusals, sensorAfter}
 use Rattle.token_reader.specs.Read.{mostTokenBytes, readTokens, answerIn, expressionIn}
 use Rattle.band.specs.declared.Side.{Side}
 use Rattle.band.specs.declared.Side.the-variants.{Read, Write}

@@ -15,13 +15,13 @@ ghost use Rattle.drive.specs.State.{
   Freshens,
 };
 use answer::Answer;
-use band_columns::BandColumns;
 use band::Row;
 use band::Side;
+use band_columns::BandColumns;
 use expression::Expression;
 use geometry::Span;
 use sensor::Sensor;
-use sensor::SensorColumns;
+use sensor_set::SensorColumns;
 
 // Sixteen rows, spans and sensors, whatever the header counts: the first `band_count` and `sensor_count` of them are in use.
 pub struct Drive {

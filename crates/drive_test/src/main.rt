@@ -1,14 +1,14 @@
 // Runs the scripts of standard input, each after its length in four bytes, low first, by the drive's own events: each event by value, on the
 // drive that the last one left. Prints for each a line with its number and then the listing of document 01. Then calls that no script makes.
 use answer::Answer;
-use band_columns::BandColumns;
 use band::Row;
+use band_columns::BandColumns;
 use drive::Drive;
 use drive::Kind;
 use event_reader::EventRead;
 use script::HeaderRead;
 use sensor::Sensor;
-use sensor::SensorColumns;
+use sensor_set::SensorColumns;
 
 const MOST: u64 = 18_446_744_073_709_551_615;
 

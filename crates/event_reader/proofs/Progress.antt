@@ -10,7 +10,7 @@ use borrow.Author.Tests.{ltb-true, ltb-false, leb-true}
 use Rattle.base.specs.Columns.{named}
 use Rattle.base.proofs.Cases.{cond-either}
 use Rattle.numbers.specs.Groups.{Found, found, none, numberAt}
-use Rattle.sensor.specs.Columns.{sensorMasks}
+use Rattle.sensor_set.specs.Columns.{sensorMasks}
 use Rattle.token_reader.specs.Read.{mostTokenBytes}
 use Rattle.band_columns.specs.Sets.{bandMasks}
 use Rattle.drive.specs.Events.{Event, geometry, transfer}

@@ -6,7 +6,7 @@ use lib.Dec.{eqb, leb, ltb}
 use lib.ListN.{length, take, drop}
 use Rattle.base.specs.Columns.{named}
 use Rattle.numbers.specs.Groups.{Found, found, none, numberAt}
-use Rattle.sensor.specs.Columns.{sensorMasks}
+use Rattle.sensor_set.specs.Columns.{sensorMasks}
 use Rattle.token_reader.specs.Read.{mostTokenBytes}
 use Rattle.band_columns.specs.Sets.{bandMasks}
 use Rattle.drive.specs.Events.{Event, reading, elapse, reset, sensorSet, bandSet, geometry, transfer, eventOf}

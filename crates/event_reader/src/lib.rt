@@ -9,7 +9,7 @@ ghost use Rattle.event_reader.specs.Parts.{firstColumnsIn, bytesReadIn};
 use band_columns::BandColumns;
 use drive::Kind;
 use numbers::Number;
-use sensor::SensorColumns;
+use sensor_set::SensorColumns;
 
 // What reading at a place finds: an event, where its expression's bytes start and how many they are, and the place after it.
 pub enum EventRead {

@@ -15,9 +15,9 @@ use Rattle.answer.specs.declared.Answer.the-variants.{Done, NoRow, OutOfRange}
 use Rattle.answer.specs.Numbers.{numberOf}
 use Rattle.sensor.specs.declared.single.Sensor.{Sensor}
 use Rattle.sensor.specs.declared.single.SensorAnswer.{SensorAnswer}
-use Rattle.sensor.specs.declared.columns.SensorColumns.{SensorColumns}
+use Rattle.sensor_set.specs.declared.SensorColumns.{SensorColumns}
 use Rattle.sensor.specs.Single.{freshSensor, readingAnswer, readingOf, powerCycleOf, Answers}
-use Rattle.sensor.specs.Columns.{setAnswer, setOf}
+use Rattle.sensor_set.specs.Columns.{setAnswer, setOf}
 use Rattle.band.specs.declared.Side.{Side}
 use Rattle.band.specs.declared.Row.{Row}
 use Rattle.band_columns.specs.declared.BandColumns.{BandColumns}

@@ -13,15 +13,15 @@ ghost use Rattle.drive.specs.Events.{Event as E};
 ghost use Rattle.elapse.specs.Jumps.{running};
 ghost use Rattle.events.specs.Parts.{refused, granting, Stores};
 use answer::Answer;
-use band_columns::BandColumns;
 use band::Row;
+use band_columns::BandColumns;
 use drive::Drive;
 use drive::Kind;
 use drive::Reply;
 use row_set::RowAnswer;
 use sensor::Sensor;
 use sensor::SensorAnswer;
-use sensor::SensorColumns;
+use sensor_set::SensorColumns;
 
 // Granted, document 01's word: the answer is done.
 fn granted(answer: Answer) -> bool
@@ -135,7 +135,7 @@ pub fn set_sensor(drive: Drive, sensor: u64, columns: SensorColumns) -> Reply
     let at = sensor as usize;
     let all = drive.sensors;
     let former = sensors::sensor_at(all, at);
-    let r = former.set(columns);
+    let r = sensor_set::set(former, columns);
     store_sensor(drive, at, r)
 }
 

@@ -11,10 +11,10 @@ use mir.Val.{Fits}
 use mir.Syntax.{w64}
 use Rattle.base.specs.Rows.{isRow, modify}
 use Rattle.base.proofs.Rows.{row-is}
-use Rattle.sensor.specs.declared.columns.SensorEvent.{SensorEvent}
-use Rattle.sensor.specs.declared.columns.SensorEvent.the-variants as S
-use Rattle.sensor.specs.Columns.{sensorAnswer, sensorAfter}
-use Rattle.sensor.proofs.Refused.{event-refused}
+use Rattle.sensor_set.specs.declared.SensorEvent.{SensorEvent}
+use Rattle.sensor_set.specs.declared.SensorEvent.the-variants as S
+use Rattle.sensor_set.specs.Columns.{sensorAnswer, sensorAfter}
+use Rattle.sensor_set.proofs.Refused.{event-refused}
 use Rattle.drive.specs.declared.Drive.{Drive}
 use Rattle.drive.specs.declared.Kind.{Kind}
 use Rattle.drive.specs.declared.Kind.the-variants as K

@@ -17,10 +17,10 @@ use Rattle.answer.specs.declared.Answer.{Answer}
 use Rattle.answer.specs.Numbers.{numberOf}
 use Rattle.sensor.specs.declared.single.Sensor.{Sensor}
 use Rattle.sensor.specs.declared.single.SensorAnswer.{SensorAnswer}
-use Rattle.sensor.specs.declared.columns.SensorColumns.{SensorColumns}
+use Rattle.sensor_set.specs.declared.SensorColumns.{SensorColumns}
 use Rattle.sensor.specs.Single.{readingAnswer, readingOf, sensorTick, runs, endsNext, Answers}
 use Rattle.sensor.specs.Parts.{loweredBy}
-use Rattle.sensor.specs.Columns.{setAnswer, setOf, sensorAnswer, sensorAfter}
+use Rattle.sensor_set.specs.Columns.{setAnswer, setOf, sensorAnswer, sensorAfter}
 use Rattle.sensors.specs.declared.Passed.{Passed}
 use Rattle.sensors.specs.Sixteen.{Passes}
 use Rattle.sensors.specs.Parts.{quietTicks}
@@ -38,8 +38,8 @@ use Rattle.drive.specs.declared.Kind.the-variants as K
 use Rattle.row_set.specs.declared.RowAnswer.{RowAnswer}
 use Rattle.row_set.specs.Forming.{SetsRow}
 use Rattle.base.proofs.Rows.{row-there}
-use Rattle.sensor.specs.declared.columns.SensorEvent.{SensorEvent}
-use Rattle.sensor.specs.declared.columns.SensorEvent.the-variants as S
+use Rattle.sensor_set.specs.declared.SensorEvent.{SensorEvent}
+use Rattle.sensor_set.specs.declared.SensorEvent.the-variants as S
 use Rattle.in_place.specs.declared.Change.{Change}
 use Rattle.in_place.specs.declared.Change.the-variants as C
 use Rattle.in_place.specs.Parts.{noReset, sensorChange, rowChange, elapseChange, resetChange, changeOf}

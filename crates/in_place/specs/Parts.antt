@@ -1,5 +1,5 @@
 -- What the run keeps of its drive, and what it takes from its parts: one sensor's events, a Set of one row, and an elapse of the sensors alone.
-use Rattle.sensor.specs.declared.columns.SensorEvent.the-variants as S
+use Rattle.sensor_set.specs.declared.SensorEvent.the-variants as S
 use Rattle.drive.specs.declared.Kind.the-variants as K
 use Rattle.in_place.specs.declared.Change.the-variants as C
 use Prim.Native.Nat.{ℕ}
@@ -26,7 +26,7 @@ use Rattle.in_place.specs.declared.SensorAfter.{SensorAfter}
 use Rattle.in_place.specs.declared.RowAfter.{RowAfter}
 use Rattle.in_place.specs.declared.SensorsAfter.{SensorsAfter}
 use Rattle.base.specs.Rows.{isRow}
-use Rattle.sensor.specs.declared.columns.SensorEvent.{SensorEvent}
+use Rattle.sensor_set.specs.declared.SensorEvent.{SensorEvent}
 use Rattle.drive.specs.declared.Kind.{Kind}
 use Rattle.in_place.specs.declared.Change.{Change}
 

@@ -7,7 +7,7 @@ ghost use mathlib.Core.Path.{_≡_};
 ghost use Prim.Native.Nat.{_≤_};
 ghost use lib.Dec.{eqb, ltb};
 ghost use lib.ListN.{length};
-ghost use Rattle.sensor.specs.Columns.{sensorAnswer, sensorAfter};
+ghost use Rattle.sensor_set.specs.Columns.{sensorAnswer, sensorAfter};
 ghost use Rattle.band.specs.Rows.{closedOn, lastResetType};
 ghost use Rattle.geometry.specs.Events.{transferAnswer};
 ghost use Rattle.drive.specs.State.{freshOf};
@@ -16,14 +16,14 @@ ghost use Rattle.event_reader.specs.Fields.{tokensAt};
 ghost use Rattle.in_place.specs.FirstEvents.{after, eventsRun, firstEvents, firstEventsRun};
 ghost use Rattle.in_place.specs.Parts.{noReset, sensorChange, rowChange, elapseChange, resetChange, changeOf};
 ghost use Rattle.in_place.specs.Parts.{SettledSixteen, LeavesSensor, LeavesRow, byStops, LeavesSensors};
-use band_columns::BandColumns;
 use band::Row;
+use band_columns::BandColumns;
 use drive::Drive;
 use drive::Kind;
-use geometry::Span;
 use event_reader::EventRead;
+use geometry::Span;
 use sensor::Sensor;
-use sensor::SensorEvent;
+use sensor_set::SensorEvent;
 
 // A reset type that is in no set: there is no reset.
 const NO_RESET: u64 = 255;
@@ -109,7 +109,7 @@ fn on_sensor(one: Sensor, event: SensorEvent) -> SensorAfter
 {
     let r = match event {
         SensorEvent::Reading { value } => one.reading(value),
-        SensorEvent::Set { columns } => one.set(columns),
+        SensorEvent::Set { columns } => sensor_set::set(one, columns),
     };
     let answer = r.answer;
     let new = r.sensor;

@@ -16,9 +16,10 @@ use Rattle.base.proofs.Jumps.{ticks-keep}
 use Rattle.sensor.specs.declared.single.Sensor.{Sensor}
 use Rattle.sensor.specs.Single.{freshSensor, readingOf, powerCycleOf}
 use Rattle.sensor.specs.Single.{sensorTick}
-use Rattle.sensor.specs.Columns.{setOf}
+use Rattle.sensor_set.specs.Columns.{setOf}
 use Rattle.sensor.specs.Sound.{Sound}
-use Rattle.sensor.proofs.Soundness.{fresh-sound, tick-sound, reading-sound, power-cycle-sound, set-sound}
+use Rattle.sensor.proofs.Soundness.{fresh-sound, tick-sound, reading-sound, power-cycle-sound}
+use Rattle.sensor_set.proofs.Sets.{set-sound}
 use Rattle.sensor.proofs.Motion.{fresh-tick, fresh-power-cycle}
 use Rattle.expression.specs.declared.Expression.{Expression}
 use Rattle.token_reader.specs.Format.{Bytes}

@@ -18,7 +18,7 @@ use Rattle.sensor.specs.Level.{greatestReading, levelRule}
 use Rattle.sensor.specs.Single.{freshSensor, onOf, offOf, moved, movedBy, withLevel, judgeOf, turnCause, turnedTo, readingOf, enableOf}
 use Rattle.sensor.specs.Single.{afterCause}
 use Rattle.sensor.specs.Single.{sensorTick}
-use Rattle.sensor.specs.Columns.{columnsFit, storedOf, switchedOf, setOf}
+use Rattle.sensor_set.specs.Columns.{columnsFit, storedOf, switchedOf, setOf}
 use Rattle.sensor.proofs.Worked.{below-both, at-both, at-off, above-off, two-old, three-new}
 use Rattle.evaluator.specs.Value.{evaluate, valueOf}
 use Rattle.evaluator.proofs.Bits.{absent}

@@ -7,7 +7,7 @@ use lib.ListN.{length, getD}
 use Rattle.base.specs.Ticks.{ticks}
 use Rattle.phases.specs.Phases.{isEnabled}
 use Rattle.sensor.specs.declared.single.Sensor.{Sensor}
-use Rattle.sensor.specs.declared.columns.SensorColumns.{SensorColumns}
+use Rattle.sensor_set.specs.declared.SensorColumns.{SensorColumns}
 use Rattle.sensor.specs.Single.{freshSensor, onOf, offOf, readingOf, turnedTo}
 use Rattle.sensor.specs.Single.{sensorTick}
 use Rattle.expression.specs.declared.Part.the-variants.{Reference, Operator}

@@ -2,8 +2,8 @@
 ghost use mathlib.Core.Path.{_≡_};
 ghost use Rattle.numbers.specs.Groups.{foundIn, numberAt};
 ghost use Rattle.event_reader.specs.Fields.{parsedIn, eventAt, tokensAt};
-use numbers::Number;
 use event_reader::EventRead;
+use numbers::Number;
 
 // A script, and the place in it that is read next.
 pub struct Reader<'a> {

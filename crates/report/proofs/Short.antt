@@ -18,7 +18,7 @@ use Rattle.phases.specs.Phases.{phaseNumber}
 use Rattle.sensor.specs.declared.single.Sensor.{Sensor}
 use Rattle.sensor.specs.Single.{freshSensor, runs}
 use Rattle.sensor.specs.Sound.{Timed}
-use Rattle.sensor.proofs.Keeping.{keeps-timed}
+use Rattle.sensor_set.proofs.Keeping.{keeps-timed}
 use Rattle.band.specs.declared.Side.the-variants.{Read, Write}
 use Rattle.band.specs.declared.Row.{Row}
 use Rattle.band.specs.Rows.{freshRow, lockedOn, valueIn}

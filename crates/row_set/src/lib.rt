@@ -7,8 +7,8 @@ ghost use Rattle.band_columns.specs.Sets.{columnsFit};
 ghost use Rattle.row_set.specs.Forming.{SetsRow};
 ghost use Rattle.row_set.specs.Parts.{TokensFor, Forms};
 use answer::Answer;
-use band_columns::BandColumns;
 use band::Row;
+use band_columns::BandColumns;
 use expression::Expression;
 use token_reader::Tokens;
 

@@ -1,11 +1,8 @@
 pub mod Arms
-pub mod Fits
 pub mod Motion
 pub mod Ticks
 pub mod Soundness
 pub mod Levels
 pub mod Lag
 pub mod Bounds
-pub mod Keeping
-pub mod Refused
 pub mod Worked

@@ -1,11 +1,10 @@
 -- Every sensor that events reach is sound: the fresh one is, and every method keeps it.
 use mathlib.Core.Path.{_≡_, refl, subst}
 use mathlib.Core.Bool.{Bool, true, false, cond, Bool·beq}
-use Prim.Native.Nat.{ℕ, zero, suc, _-_, _≤_}
+use Prim.Native.Nat.{ℕ, zero, suc, _-_}
 use native.Mathlib.Omega.{arith}
 use lib.Dec.{eqb, ltb}
-use borrow.Author.Tests.{eqb-false, leb-true}
-use Rattle.base.specs.Columns.{named, within}
+use borrow.Author.Tests.{eqb-false}
 use Rattle.phases.specs.declared.Phase.{Phase}
 use Rattle.phases.specs.declared.Phase.the-variants.{SS0, ST0, SS1, ST1, SS2}
 use Rattle.phases.specs.declared.Move.{Move}
@@ -24,14 +23,11 @@ use Rattle.phases.specs.declared.Cause.the-variants.{
   PowerCycle,
 }
 use Rattle.sensor.specs.declared.single.Sensor.{Sensor}
-use Rattle.sensor.specs.declared.columns.SensorColumns.{SensorColumns}
 use Rattle.phases.specs.Phases.{conditionIn, whenEnabled, whenDisabled, settled, powerCycled, moveOf}
 use Rattle.sensor.specs.Level.{greatestReading}
 use Rattle.sensor.specs.Single.{freshSensor, moved, withLevel, withTimer, timerIn, entering, movedBy, afterCause, judgeOf, turnCause, turnedTo, readingOf, enableCause, enableOf, disableOf, powerCycleOf, sensorTick}
 use Rattle.sensor.specs.Parts.{loweredBy}
-use Rattle.sensor.specs.Columns.{greatestFraction, columnsFit, storedOf, switchedOf, setOf}
 use Rattle.sensor.specs.Sound.{TimerAgrees, LevelAgrees, ConditionAgrees, Sound}
-use Rattle.sensor.proofs.Fits.{fitting}
 use Rattle.sensor.proofs.Ticks.{QuietFor}
 
 pub fresh-sound : Sound freshSensor
@@ -205,7 +201,7 @@ lowered-sound k s q h = timer-sound s (s .timer - k) (omega arith) (go (s .timer
     go zero q e = refl
     go (suc t) q e = omega arith
 
--- ---- enabling, disabling, power cycle, Set
+-- ---- enabling, disabling, power cycle
 
 enable-meets : (s : Sensor) → Meets (enableCause s) s
 enable-meets s = go (s .level) refl
@@ -225,30 +221,3 @@ disable-sound s h = step-sound Disabled s tt h
 pub power-cycle-sound : (s : Sensor) → Sound s → Sound (powerCycleOf s)
 unfolding powerCycleOf
 power-cycle-sound s h = step-sound PowerCycle s tt h
-
--- a fraction after a Set that fits
-fraction : (n : Bool) (new old : ℕ) → within greatestFraction n new ≡ true → old ≤ greatestFraction → cond n new old ≤ greatestFraction
-fraction true new old e h = leb-true new greatestFraction e
-fraction false new old e h = h
-
-pub stored-sound : (c : SensorColumns) (s : Sensor) → columnsFit c ≡ true → Sound s → Sound (storedOf c s)
-unfolding storedOf
-stored-sound c s e h = record {
-  timer = h .timer;
-  level = h .level;
-  condition = h .condition;
-  «on_fraction» = fraction (named 4 (c .mask)) (c .«on_fraction») (s .«on_fraction») (fitting c e .«on_fraction») (h .«on_fraction»);
-  «off_fraction» = fraction (named 32 (c .mask)) (c .«off_fraction») (s .«off_fraction») (fitting c e .«off_fraction») (h .«off_fraction»);
-}
-
-switched-sound : (c : SensorColumns) (s : Sensor) → Sound s → Sound (switchedOf c s)
-unfolding switchedOf
-switched-sound c s h =
-    either (named 1 (c .mask)) _ s
-    (λ e. either (eqb (c .enabled) 1) (enableOf s) (disableOf s) (λ f. enable-sound s h) (λ f. disable-sound s h))
-    (λ e. h)
-
-pub set-sound : (c : SensorColumns) (s : Sensor) → Sound s → Sound (setOf c s)
-unfolding setOf
-set-sound c s h =
-    either (columnsFit c) (switchedOf c (storedOf c s)) s (λ e. switched-sound c (storedOf c s) (stored-sound c s e h)) (λ e. h)

@@ -1,5 +1,4 @@
 pub mod Level
 pub mod Single
-pub mod Columns
 pub mod Sound
 pub mod Parts

@@ -18,6 +18,13 @@ use Rattle.sensor.specs.declared.single.SensorAnswer.{SensorAnswer}
 use Rattle.phases.specs.Phases.{conditionIn, moveOf, levelAfter}
 use Rattle.sensor.specs.Level.{greatestReading, thousandths, levelRule}
 
+-- "Thresholds and timeouts are 0 to 4,294,967,295; fractions 0 to 999."
+abbrev pub greatestNumber : ℕ
+greatestNumber = 4294967295
+
+abbrev pub greatestFraction : ℕ
+greatestFraction = 999
+
 -- "Fresh: all columns 0, .. levels FALSE, phases SS0."
 unfoldable pub freshSensor : Sensor
 freshSensor = record {

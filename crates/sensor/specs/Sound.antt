@@ -5,7 +5,7 @@ use mathlib.Core.Bool.{Bool, true, false}
 use Rattle.phases.specs.declared.Phase.{Phase}
 use Rattle.phases.specs.declared.Phase.the-variants.{SS0, ST0, SS1, ST1, SS2}
 use Rattle.sensor.specs.declared.single.Sensor.{Sensor}
-use Rattle.sensor.specs.Columns.{greatestNumber, greatestFraction}
+use Rattle.sensor.specs.Single.{greatestNumber, greatestFraction}
 
 -- a timer runs exactly while the sensor waits
 abbrev pub TimerAgrees : Phase → ℕ → Type 0

@@ -5,7 +5,7 @@ use phases::Move;
 use phases::Phase;
 use sensor::Sensor;
 use sensor::SensorAnswer;
-use sensor::SensorColumns;
+use sensor_set::SensorColumns;
 
 fn bit(b: bool) -> u64 {
     if b { 1 } else { 0 }
@@ -69,7 +69,7 @@ fn set_all(
         off_fraction,
         off_timeout,
     };
-    answered(s.set(columns))
+    answered(sensor_set::set(s, columns))
 }
 
 // A Set with the same value for each column that it names.
@@ -84,7 +84,7 @@ fn set(s: Sensor, mask: u64, value: u64) -> Sensor {
         off_fraction: value,
         off_timeout: value,
     };
-    answered(s.set(columns))
+    answered(sensor_set::set(s, columns))
 }
 
 // On = Off = 5,000.

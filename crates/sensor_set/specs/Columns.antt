@@ -5,24 +5,17 @@ use mathlib.Core.List.{List, [], _∷_}
 use lib.Dec.{eqb, ltb}
 use Rattle.base.specs.Columns.{named, within}
 use Rattle.base.specs.Refusals.{Refusal, when, firstOf}
 use Rattle.sensor.specs.declared.single.Sensor.{Sensor}
-use Rattle.sensor.specs.declared.columns.SensorColumns.{SensorColumns}
-use Rattle.sensor.specs.declared.columns.SensorEvent.{SensorEvent}
-use Rattle.sensor.specs.declared.columns.SensorEvent.the-variants as E
-use Rattle.sensor.specs.Single.{readingAnswer, readingOf, enableOf, disableOf}
-
--- "Thresholds and timeouts are 0 to 4,294,967,295; fractions 0 to 999." "A boolean is 0 or 1."
-abbrev pub greatestNumber : ℕ
-greatestNumber = 4294967295
-
-abbrev pub greatestFraction : ℕ
-greatestFraction = 999
+use Rattle.sensor_set.specs.declared.SensorColumns.{SensorColumns}
+use Rattle.sensor_set.specs.declared.SensorEvent.{SensorEvent}
+use Rattle.sensor_set.specs.declared.SensorEvent.the-variants as E
+use Rattle.sensor.specs.Single.{greatestNumber, greatestFraction, readingAnswer, readingOf, enableOf, disableOf}
 
 -- the masks of seven bits are those below
 abbrev pub sensorMasks : ℕ
 sensorMasks = 128
 
--- Every bit of the mask is one of the seven, and every named value is in its range.
+-- Every bit of the mask is one of the seven, and every named value is in its range. "A boolean is 0 or 1."
 unfoldable pub columnsFit : SensorColumns → Bool
 columnsFit c =
     let m = c .mask in

@@ -1,8 +1,8 @@
-use Rattle.sensor.specs.Columns.{columnsFit}
+use Rattle.sensor_set.specs.Columns.{columnsFit}
 use Rattle.base.proofs.Cases.{tests}
 use borrow.Author.Needs.{needs}
-use Rattle.sensor.proofs.columns.SensorColumns.fit.Statement.{statement}
-use Rattle.sensor.proofs.columns.SensorColumns.fit.Tie as tie
+use Rattle.sensor_set.proofs.SensorColumns.fit.Statement.{statement}
+use Rattle.sensor_set.proofs.SensorColumns.fit.Tie as tie
 
 pub fit-spec : {M : Type 1} → statement M
 unfolding columnsFit

@@ -1,12 +1,13 @@
 -- What every event and every tick keeps of a sensor: the facts that the layers above carry from drive to drive.
 use Rattle.sensor.specs.declared.single.Sensor.{Sensor}
 use Rattle.sensor.specs.Single.{freshSensor, powerCycleOf, sensorTick}
-use Rattle.sensor.specs.declared.columns.SensorEvent.{SensorEvent}
-use Rattle.sensor.specs.declared.columns.SensorEvent.the-variants as E
-use Rattle.sensor.specs.Columns.{sensorAfter}
+use Rattle.sensor_set.specs.declared.SensorEvent.{SensorEvent}
+use Rattle.sensor_set.specs.declared.SensorEvent.the-variants as E
+use Rattle.sensor_set.specs.Columns.{sensorAfter}
 use Rattle.sensor.specs.Sound.{Sound, Timed}
-use Rattle.sensor.proofs.Soundness.{fresh-sound, tick-sound, reading-sound, power-cycle-sound, set-sound}
-use Rattle.sensor.proofs.Bounds.{fresh-timed, tick-timed, reading-timed, cycle-timed, set-timed}
+use Rattle.sensor.proofs.Soundness.{fresh-sound, tick-sound, reading-sound, power-cycle-sound}
+use Rattle.sensor.proofs.Bounds.{fresh-timed, tick-timed, reading-timed, cycle-timed}
+use Rattle.sensor_set.proofs.Sets.{set-sound, set-timed}
 
 -- it holds of the fresh sensor, and whatever happens to a sensor leaves it so
 pub record Keeps (P : Sensor → Type 0) : Type 0 where

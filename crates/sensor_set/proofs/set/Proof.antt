@@ -1,10 +1,10 @@
-use Rattle.sensor.proofs.Arms.{set-granted, set-refused, set-done}
-use Rattle.sensor.specs.Columns.{setOf}
+use Rattle.sensor_set.proofs.Arms.{set-granted, set-refused, set-done}
+use Rattle.sensor_set.specs.Columns.{setOf}
 use mathlib.Core.Path.{sym, _∙_}
 use Rattle.base.proofs.Cases.{calls}
 use borrow.Author.Needs.{needs}
-use Rattle.sensor.proofs.single.Sensor.set.Statement.{statement}
-use Rattle.sensor.proofs.single.Sensor.set.Tie as tie
+use Rattle.sensor_set.proofs.set.Statement.{statement}
+use Rattle.sensor_set.proofs.set.Tie as tie
 
 fit-requires : tie.Need-fit-requires
 fit-requires c κs = search needs

@@ -1,8 +1,8 @@
-use Rattle.sensor.specs.Columns.{storedOf}
+use Rattle.sensor_set.specs.Columns.{storedOf}
 use native.Mathlib.Omega.{arith}
-use Rattle.sensor.proofs.Fits.{fitting, on-fraction, off-fraction}
-use Rattle.sensor.proofs.single.Sensor.store.Statement.{statement}
-use Rattle.sensor.proofs.single.Sensor.store.Tie as tie
+use Rattle.sensor_set.proofs.Fits.{fitting, on-fraction, off-fraction}
+use Rattle.sensor_set.proofs.store.Statement.{statement}
+use Rattle.sensor_set.proofs.store.Tie as tie
 
 column-requires : tie.Need-column-requires
 column-requires c κs = (omega arith, fitting _ (c .pre) .«on_threshold»)

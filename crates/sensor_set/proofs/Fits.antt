@@ -7,8 +7,9 @@ use lib.Dec.{ltb}
 use borrow.Author.Tests.{leb-true, le-leb}
 use Rattle.base.specs.Columns.{named, within}
 use Rattle.base.proofs.Cases.{and-left, and-right}
-use Rattle.sensor.specs.declared.columns.SensorColumns.{SensorColumns}
-use Rattle.sensor.specs.Columns.{columnsFit, greatestNumber, greatestFraction}
+use Rattle.sensor.specs.Single.{greatestNumber, greatestFraction}
+use Rattle.sensor_set.specs.declared.SensorColumns.{SensorColumns}
+use Rattle.sensor_set.specs.Columns.{columnsFit}
 
 pub record Fitting (c : SensorColumns) : Type 0 where
   pub enabled : within 1 (named 1 (c .mask)) (c .enabled) ≡ true

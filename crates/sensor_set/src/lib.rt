@@ -1,13 +1,13 @@
-// A Set of a sensor's columns.
+// A Set of one sensor's columns (document 01, 'Sensors'): its answer and the sensor after it.
 ghost use mathlib.Core.Path.{_≡_};
 ghost use mathlib.Core.Bool.{true, cond};
 ghost use Prim.Native.Nat.{_<_};
 ghost use Rattle.base.specs.Columns.{named, within};
-ghost use Rattle.sensor.specs.Single.{Answers};
-ghost use Rattle.sensor.specs.Columns.{greatestNumber, columnsFit, setAnswer, storedOf, switchedOf, setOf};
-use crate::single::Sensor;
-use crate::single::SensorAnswer;
+ghost use Rattle.sensor.specs.Single.{greatestNumber, Answers};
+ghost use Rattle.sensor_set.specs.Columns.{columnsFit, setAnswer, storedOf, switchedOf, setOf};
 use answer::Answer;
+use sensor::Sensor;
+use sensor::SensorAnswer;
 
 // What a Set carries. A column is named by its bit in the mask: 1 enabled, 2 on-threshold, 4 on-fraction, 8 on-timeout,
 // 16 off-threshold, 32 off-fraction, 64 off-timeout. A value that is not named is not looked at.
@@ -67,57 +67,55 @@ impl SensorColumns {
     }
 }
 
-impl Sensor {
-    // The sensor with the named columns stored.
-    fn store(self, columns: SensorColumns) -> Sensor
-        requires { ⌜ columnsFit columns ≡ true ⌝ }
-        ensures { λ r. ⌜ r ≡ storedOf columns self ⌝ }
-    {
-        let mask = columns.mask;
-        let phase = self.phase;
-        Sensor {
-            on_threshold: column(mask, 2, columns.on_threshold, self.on_threshold),
-            on_fraction: column(mask, 4, columns.on_fraction, self.on_fraction),
-            on_timeout: column(mask, 8, columns.on_timeout, self.on_timeout),
-            off_threshold: column(mask, 16, columns.off_threshold, self.off_threshold),
-            off_fraction: column(mask, 32, columns.off_fraction, self.off_fraction),
-            off_timeout: column(mask, 64, columns.off_timeout, self.off_timeout),
-            level: self.level,
-            phase,
-            condition: self.condition,
-            timer: self.timer,
-        }
+// The sensor with the named columns stored.
+fn store(one: Sensor, columns: SensorColumns) -> Sensor
+    requires { ⌜ columnsFit columns ≡ true ⌝ }
+    ensures { λ r. ⌜ r ≡ storedOf columns one ⌝ }
+{
+    let mask = columns.mask;
+    let phase = one.phase;
+    Sensor {
+        on_threshold: column(mask, 2, columns.on_threshold, one.on_threshold),
+        on_fraction: column(mask, 4, columns.on_fraction, one.on_fraction),
+        on_timeout: column(mask, 8, columns.on_timeout, one.on_timeout),
+        off_threshold: column(mask, 16, columns.off_threshold, one.off_threshold),
+        off_fraction: column(mask, 32, columns.off_fraction, one.off_fraction),
+        off_timeout: column(mask, 64, columns.off_timeout, one.off_timeout),
+        level: one.level,
+        phase,
+        condition: one.condition,
+        timer: one.timer,
     }
+}
 
-    // The sensor enabled or disabled, where the Set names it.
-    fn switch(self, columns: SensorColumns) -> Sensor
-        ensures { λ r. ⌜ r ≡ switchedOf columns self ⌝ }
-    {
-        if names(columns.mask, 1) {
-            if columns.enabled == 1 {
-                return self.enable();
-            }
-            return self.disable();
+// The sensor enabled or disabled, where the Set names it.
+fn switch(one: Sensor, columns: SensorColumns) -> Sensor
+    ensures { λ r. ⌜ r ≡ switchedOf columns one ⌝ }
+{
+    if names(columns.mask, 1) {
+        if columns.enabled == 1 {
+            return one.enable();
         }
-        self
+        return one.disable();
     }
+    one
+}
 
-    // A Set: the sensor after it, or answer 2 and the sensor as it was.
-    pub fn set(self, columns: SensorColumns) -> SensorAnswer
-        ensures { λ r. ⌜ Answers (setAnswer columns) (setOf columns self) r ⌝ }
-    {
-        if columns.fit() {
-            let stored = self.store(columns);
-            let sensor = stored.switch(columns);
-            return SensorAnswer {
-                answer: Answer::Done,
-                sensor,
-            };
-        }
-        SensorAnswer {
-            answer: Answer::OutOfRange,
-            sensor: self,
-        }
+// A Set: the sensor after it, or answer 2 and the sensor as it was.
+pub fn set(one: Sensor, columns: SensorColumns) -> SensorAnswer
+    ensures { λ r. ⌜ Answers (setAnswer columns) (setOf columns one) r ⌝ }
+{
+    if columns.fit() {
+        let stored = store(one, columns);
+        let sensor = switch(stored, columns);
+        return SensorAnswer {
+            answer: Answer::Done,
+            sensor,
+        };
+    }
+    SensorAnswer {
+        answer: Answer::OutOfRange,
+        sensor: one,
     }
 }
 

@@ -3,13 +3,13 @@ use mathlib.Core.Path.{_≡_, refl}
 use Prim.Native.Nat.{ℕ}
 use mathlib.Core.Bool.{Bool, true, false, not, cond, true≢false}
 use lib.Dec.{eqb, ltb}
 use Rattle.sensor.specs.declared.single.Sensor.{Sensor}
-use Rattle.sensor.specs.declared.columns.SensorColumns.{SensorColumns}
-use Rattle.sensor.specs.declared.columns.SensorEvent.{SensorEvent}
-use Rattle.sensor.specs.declared.columns.SensorEvent.the-variants as E
+use Rattle.sensor_set.specs.declared.SensorColumns.{SensorColumns}
+use Rattle.sensor_set.specs.declared.SensorEvent.{SensorEvent}
+use Rattle.sensor_set.specs.declared.SensorEvent.the-variants as E
 use Rattle.sensor.specs.Level.{greatestReading}
 use Rattle.sensor.specs.Single.{judgeOf, turnedTo, readingAnswer, readingOf}
-use Rattle.sensor.specs.Columns.{columnsFit, storedOf, switchedOf, setAnswer, setOf, sensorAnswer, sensorAfter}
+use Rattle.sensor_set.specs.Columns.{columnsFit, storedOf, switchedOf, setAnswer, setOf, sensorAnswer, sensorAfter}
 
 reading-refused : (v : ℕ) (s : Sensor) → eqb (readingAnswer v) 0 ≡ false → readingOf v s ≡ s
 unfolding readingOf

@@ -1,11 +1,11 @@
 use Prim.Native.Nat.{_≤_}
-use Rattle.sensor.specs.Columns.{greatestNumber}
+use Rattle.sensor.specs.Single.{greatestNumber}
 use native.Mathlib.Omega.{arith}
 use Rattle.base.proofs.Columns.{named-fits}
 use Rattle.base.proofs.Cases.{calls}
 use borrow.Author.Needs.{needs}
-use Rattle.sensor.proofs.columns.column.Statement.{statement}
-use Rattle.sensor.proofs.columns.column.Tie as tie
+use Rattle.sensor_set.proofs.column.Statement.{statement}
+use Rattle.sensor_set.proofs.column.Tie as tie
 
 names-requires : tie.Need-names-requires
 names-requires c κs = search needs

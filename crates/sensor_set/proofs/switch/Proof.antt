@@ -1,8 +1,8 @@
-use Rattle.sensor.specs.Columns.{switchedOf}
+use Rattle.sensor_set.specs.Columns.{switchedOf}
 use Rattle.base.proofs.Cases.{calls}
 use borrow.Author.Needs.{needs}
-use Rattle.sensor.proofs.single.Sensor.switch.Statement.{statement}
-use Rattle.sensor.proofs.single.Sensor.switch.Tie as tie
+use Rattle.sensor_set.proofs.switch.Statement.{statement}
+use Rattle.sensor_set.proofs.switch.Tie as tie
 
 names-requires : tie.Need-names-requires
 names-requires c κs = search needs

@@ -1,7 +1,7 @@
 use Rattle.base.proofs.Columns.{within-named, within-free}
 use borrow.Author.Needs.{needs}
-use Rattle.sensor.proofs.columns.in_range.Statement.{statement}
-use Rattle.sensor.proofs.columns.in_range.Tie as tie
+use Rattle.sensor_set.proofs.in_range.Statement.{statement}
+use Rattle.sensor_set.proofs.in_range.Tie as tie
 
 names-requires : tie.Need-names-requires
 names-requires c κs = search needs

@@ -1,0 +1,18 @@
+-- What the arms of a Set come to, over the values that their calls hand back: stored, and then enabled or disabled.
+use mathlib.Core.Path.{_≡_, sym, ap, _∙_}
+use mathlib.Core.Bool.{Bool, true, false, not, cond}
+use Rattle.base.proofs.Cases.{cond-true}
+use Rattle.sensor.specs.declared.single.Sensor.{Sensor}
+use Rattle.sensor_set.specs.declared.SensorColumns.{SensorColumns}
+use Rattle.sensor_set.specs.Columns.{columnsFit, setAnswer, storedOf, switchedOf, setOf}
+
+pub set-granted : (c : SensorColumns) (t : Bool) → t ≡ columnsFit c → t ≡ true → 0 ≡ setAnswer c
+set-granted c t p e = sym (ap (λ (x : Bool). cond (not x) 2 0) (sym p ∙ e))
+
+pub set-refused : (c : SensorColumns) (t : Bool) → t ≡ columnsFit c → t ≡ false → 2 ≡ setAnswer c
+set-refused c t p e = sym (ap (λ (x : Bool). cond (not x) 2 0) (sym p ∙ e))
+
+pub set-done : (c : SensorColumns) (s m r : Sensor) (t : Bool) → t ≡ columnsFit c → t ≡ true → m ≡ storedOf c s → r ≡ switchedOf c m
+    → r ≡ setOf c s
+unfolding setOf
+set-done c s m r t p e q w = cond-true (columnsFit c) _ _ _ (sym p ∙ e) (w ∙ ap (switchedOf c) q)

@@ -1,0 +1,5 @@
+pub mod Arms
+pub mod Fits
+pub mod Sets
+pub mod Keeping
+pub mod Refused

@@ -1,0 +1,68 @@
+-- What a Set keeps of a sensor: one that is sound stays so, and no timeout and no timer comes to exceed the range of timeouts.
+use mathlib.Core.Path.{_≡_}
+use Prim.Native.Nat.{ℕ, _≤_}
+use mathlib.Core.Bool.{Bool, true, false, cond}
+use lib.Dec.{eqb}
+use borrow.Author.Tests.{leb-true}
+use Rattle.base.specs.Columns.{named, within}
+use Rattle.base.proofs.Cases.{cond-either}
+use Rattle.phases.specs.declared.Cause.the-variants.{Disabled}
+use Rattle.sensor.specs.declared.single.Sensor.{Sensor}
+use Rattle.sensor.specs.Single.{greatestNumber, greatestFraction, enableCause, enableOf, disableOf}
+use Rattle.sensor.specs.Sound.{Sound, Timed}
+use Rattle.sensor.proofs.Soundness.{enable-sound, disable-sound}
+use Rattle.sensor.proofs.Bounds.{step-timed}
+use Rattle.sensor_set.specs.declared.SensorColumns.{SensorColumns}
+use Rattle.sensor_set.specs.Columns.{columnsFit, storedOf, switchedOf, setOf}
+use Rattle.sensor_set.proofs.Fits.{fitting}
+
+-- a column that a Set names is in its range
+column : (most : ℕ) (n : Bool) (new old : ℕ) → within most n new ≡ true → old ≤ most → cond n new old ≤ most
+column most true new old e h = leb-true new most e
+column most false new old e h = h
+
+-- ---- soundness
+
+stored-sound : (c : SensorColumns) (s : Sensor) → columnsFit c ≡ true → Sound s → Sound (storedOf c s)
+unfolding storedOf
+stored-sound c s e h = record {
+  timer = h .timer;
+  level = h .level;
+  condition = h .condition;
+  «on_fraction» = column greatestFraction (named 4 (c .mask)) (c .«on_fraction») (s .«on_fraction») (fitting c e .«on_fraction») (h .«on_fraction»);
+  «off_fraction» = column greatestFraction (named 32 (c .mask)) (c .«off_fraction») (s .«off_fraction») (fitting c e .«off_fraction») (h .«off_fraction»);
+}
+
+switched-sound : (c : SensorColumns) (s : Sensor) → Sound s → Sound (switchedOf c s)
+unfolding switchedOf
+switched-sound c s h =
+    cond-either Sound (named 1 (c .mask)) (cond (eqb (c .enabled) 1) (enableOf s) (disableOf s)) s
+    (λ e. cond-either Sound (eqb (c .enabled) 1) (enableOf s) (disableOf s) (λ f. enable-sound s h) (λ f. disable-sound s h))
+    (λ e. h)
+
+pub set-sound : (c : SensorColumns) (s : Sensor) → Sound s → Sound (setOf c s)
+unfolding setOf
+set-sound c s h =
+    cond-either Sound (columnsFit c) (switchedOf c (storedOf c s)) s (λ e. switched-sound c (storedOf c s) (stored-sound c s e h)) (λ e. h)
+
+-- ---- the bounds of timers
+
+stored-timed : (c : SensorColumns) (s : Sensor) → columnsFit c ≡ true → Timed s → Timed (storedOf c s)
+unfolding storedOf
+stored-timed c s e h = record {
+  on = column greatestNumber (named 8 (c .mask)) (c .«on_timeout») (s .«on_timeout») (fitting c e .«on_timeout») (h .on);
+  off = column greatestNumber (named 64 (c .mask)) (c .«off_timeout») (s .«off_timeout») (fitting c e .«off_timeout») (h .off);
+  timer = h .timer;
+}
+
+switched-timed : (c : SensorColumns) (s : Sensor) → Timed s → Timed (switchedOf c s)
+unfolding switchedOf enableOf disableOf
+switched-timed c s h =
+    cond-either Timed (named 1 (c .mask)) (cond (eqb (c .enabled) 1) (enableOf s) (disableOf s)) s
+    (λ e. cond-either Timed (eqb (c .enabled) 1) (enableOf s) (disableOf s) (λ f. step-timed (enableCause s) s h) (λ f. step-timed Disabled s h))
+    (λ e. h)
+
+pub set-timed : (c : SensorColumns) (s : Sensor) → Timed s → Timed (setOf c s)
+unfolding setOf
+set-timed c s h =
+    cond-either Timed (columnsFit c) (switchedOf c (storedOf c s)) s (λ e. switched-timed c (storedOf c s) (stored-timed c s e h)) (λ e. h)
