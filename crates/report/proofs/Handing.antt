@@ -1,14 +1,16 @@
 -- Bytes handed over where they fit.
-use mathlib.Core.Path.{_≡_}
+use mathlib.Core.Path.{_≡_, sym, ap, _∙_}
 use Prim.Native.Nat.{ℕ, _+_, _≤_, _<_}
 use native.Mathlib.Omega.{arith}
 use mathlib.Core.List.{List, _++_}
-use lib.ListN.{length, take, drop}
-use lib.Seq.{take-length}
+use lib.ListN.{length, take, drop, replicate, length-replicate}
+use lib.Seq.{take-at, take-length}
 use borrow.Author.Tests.{le-leb, lt-leb}
 use Rattle.base.specs.Spliced.{spliced}
 use Rattle.drive.specs.Events.{over}
-use Rattle.report.specs.Listing.{told, listOf}
+use Rattle.report.specs.declared.Listed.{Listed}
+use Rattle.report.specs.Listing.{told, toldIn, listOf}
+use Rattle.report.specs.Parts.{Puts, Room}
 
 pub too-short : (bytes lent : List ℕ) → length lent < length bytes → told 11 0 lent ≡ listOf bytes lent
 too-short bytes lent h = rw (lt-leb (length bytes) (length lent) h)
@@ -24,3 +26,20 @@ module _ (bytes lent after : List ℕ) where
   -- as bytes that were put say it
   pub put-over : after ≡ spliced lent 0 bytes → after ≡ over bytes lent
   put-over e = let z : 0 + length bytes ≡ length bytes = omega arith in rw z at e
+
+-- ---- bytes on a page that is made for them
+
+pub made-count : (n : ℕ) → n ≡ length {A = ℕ} (replicate n 0)
+made-count n = sym (length-replicate {A = ℕ} n 0)
+
+pub made-room : (bytes : List ℕ) (most : ℕ) → length bytes ≤ most → Room bytes 0 (replicate most 0)
+made-room bytes most few = omega (arith, few, length-replicate {A = ℕ} most 0)
+
+pub page-room : (bytes page after : List ℕ) (n most : ℕ) → Puts bytes page 0 n after → length bytes ≤ most → length after ≡ most → n ≤ length after
+page-room bytes page after n most p few l = omega (arith, few, p .place, l)
+
+-- what was put on it is its first bytes
+pub page-listed : (bytes page after lent out : List ℕ) (n : ℕ) (t : Listed) → Puts bytes page 0 n after → toldIn t out ≡ listOf (take n after) lent → toldIn t out ≡ listOf bytes lent
+page-listed bytes page after lent out n t p h =
+    let k : length bytes ≡ n = omega (arith, p .place) in
+    h ∙ ap (λ (l : List ℕ). listOf l lent) (ap (take n) (p .output) ∙ take-at bytes (drop (0 + length bytes) page) n k)

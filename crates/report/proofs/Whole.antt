@@ -4,8 +4,7 @@ use Prim.Native.Nat.{ℕ, zero, suc, _+_, _≤_, _<_}
 use native.Mathlib.Omega.{arith}
 use mathlib.Core.Bool.{Bool, cond}
 use mathlib.Core.List.{List, [], _∷_, _++_}
-use lib.ListN.{length, getD, take, drop, replicate, length-append, length-replicate}
-use lib.Seq.{take-at}
+use lib.ListN.{length, getD, drop, replicate, length-append, length-replicate}
 use borrow.Author.Tests.{le-leb}
 use Rattle.answer.specs.Numbers.{numberOf}
 use Rattle.drive.specs.State.{freshDrive}
@@ -106,28 +105,22 @@ module _ (s answers stops : List ℕ) (long : 32766 ≤ length answers) (wide : 
     ran-lines : runLines (outcomeIn r answers' stops') ≡ listing (readScript s)
     ran-lines = ap runLines e ∙ script-lines
 
-    module _ (page : List ℕ) (enough : 426486 ≤ length page) where
-      pub ran-room : Room (runLines (outcomeIn r answers' stops')) 0 page
-      ran-room = omega (arith, enough, never-short s, ap length ran-lines)
+    pub ran-short : length (runLines (outcomeIn r answers' stops')) ≤ 426486
+    ran-short = omega (arith, never-short s, ap length ran-lines)
 
-      module _ (page' : List ℕ) (n : ℕ) (p : Puts (runLines (outcomeIn r answers' stops')) page 0 n page') where
-        pub page-room : length page' ≡ length page → n ≤ length page'
-        page-room l = omega (arith, ran-room, p .place, l)
+    pub ran-room : (out : List ℕ) → 426486 ≤ length out → Room (runLines (outcomeIn r answers' stops')) 0 out
+    ran-room out enough = omega (arith, enough, ran-short)
 
-        page-holds : take n page' ≡ listing (readScript s)
-        page-holds =
-            let k : length (runLines (outcomeIn r answers' stops')) ≡ n = omega (arith, p .place) in
-            ap (take n) (p .output) ∙ take-at (runLines (outcomeIn r answers' stops')) (drop (0 + length (runLines (outcomeIn r answers' stops'))) page) n k ∙ ran-lines
+    pub ran-listed : (lent after : List ℕ) (t : Listed) → toldIn t after ≡ listOf (runLines (outcomeIn r answers' stops')) lent → toldIn t after ≡ listOf (listing (readScript s)) lent
+    ran-listed lent after t h = h ∙ ap (λ (bytes : List ℕ). listOf bytes lent) ran-lines
 
-        pub script-listed : (lent after : List ℕ) (t : Listed) → toldIn t after ≡ listOf (take n page') lent → toldIn t after ≡ listOf (listing (readScript s)) lent
-        script-listed lent after t h = h ∙ ap (λ (bytes : List ℕ). listOf bytes lent) page-holds
-
-        -- written straight into an output that is long enough
-        pub straight-listed : told 0 n page' ≡ listOf (listing (readScript s)) page
-        straight-listed =
-            let b : List ℕ = runLines (outcomeIn r answers' stops') in
-            let k : n ≡ length b = omega (arith, p .place) in
-            ap (λ (m : ℕ). told 0 m page') k ∙ handed b page page' (omega (arith, ran-room)) (put-over b page page' (p .output)) ∙ ap (λ (bytes : List ℕ). listOf bytes page) ran-lines
+    -- written straight into an output that is long enough
+    pub straight-listed : (out after : List ℕ) (n : ℕ) → 426486 ≤ length out → Puts (runLines (outcomeIn r answers' stops')) out 0 n after
+        → told 0 n after ≡ listOf (listing (readScript s)) out
+    straight-listed out after n enough p =
+        let b : List ℕ = runLines (outcomeIn r answers' stops') in
+        let k : n ≡ length b = omega (arith, p .place) in
+        ap (λ (m : ℕ). told 0 m after) k ∙ handed b out after (omega (arith, ran-room out enough)) (put-over b out after (p .output)) ∙ ap (λ (bytes : List ℕ). listOf bytes out) ran-lines
 
 abbrev answerIn : Told → ℕ
 answerIn (told answer n output) = answer

@@ -54,42 +54,30 @@ fn hand(bytes: &[u8], out: &mut [u8]) -> Listed
     }
 }
 
-// Lists a script by way of lent memory: a byte for each event in two buffers, and a page for the lines.
-fn list_by(
-    script: &[u8],
-    out: &mut [u8],
-    answers: &mut [u8],
-    stops: &mut [u8],
-    page: &mut [u8],
-) -> Listed
-    requires { ⌜ (32766 ≤ length (now answers)) × (32766 ≤ length (now stops)) × (426486 ≤ length (now page)) ⌝ }
-    ensures { λ r. ⌜ toldIn r (now (out .exit)) ≡ listOf (listing (readScript (now (script .entry)))) (now (out .entry)) ⌝ }
+// Writes the listing of a run on a page of its own, which costs an instruction for each of its bytes, and hands it over where it fits.
+fn put_by_page(out: &mut [u8], ran: Ran, answers: &[u8], stops: &[u8]) -> Listed
+    requires { ⌜ (length (runLines (outcomeIn ran (now answers) (now stops))) ≤ 426486) × Sized (ran .count) (ran .drive) (now answers) (now stops) ⌝ }
+    ensures { λ r. ⌜ toldIn r (now (out .exit)) ≡ listOf (runLines (outcomeIn ran (now (answers .entry)) (now (stops .entry)))) (now (out .entry)) ⌝ }
 {
-    let ran = run::run(script, run::WHOLE, answers, stops);
-    let length = put_run(page, ran, answers, stops);
+    let mut page = [0; MOST];
+    let length = put_run(&mut page, ran, answers, stops);
     hand(&page[..length], out)
 }
 
-// Lists a script straight into an output that is long enough for every listing.
-fn list_into(script: &[u8], out: &mut [u8], answers: &mut [u8], stops: &mut [u8]) -> Listed
-    requires { ⌜ (32766 ≤ length (now answers)) × (32766 ≤ length (now stops)) × (426486 ≤ length (now out)) ⌝ }
-    ensures { λ r. ⌜ toldIn r (now (out .exit)) ≡ listOf (listing (readScript (now (script .entry)))) (now (out .entry)) ⌝ }
-{
-    let ran = run::run(script, run::WHOLE, answers, stops);
-    let length = put_run(out, ran, answers, stops);
-    Listed {
-        answer: Answer::Done,
-        length,
-    }
-}
-
-// Lists a script by way of a page of its own, which costs an instruction for each of its bytes.
-fn list_by_page(script: &[u8], out: &mut [u8], answers: &mut [u8], stops: &mut [u8]) -> Listed
+// Lists a script by way of lent memory: a byte for each event in two buffers. An output that is long enough for every listing is written straight.
+fn list_by(script: &[u8], out: &mut [u8], answers: &mut [u8], stops: &mut [u8]) -> Listed
     requires { ⌜ (32766 ≤ length (now answers)) × (32766 ≤ length (now stops)) ⌝ }
     ensures { λ r. ⌜ toldIn r (now (out .exit)) ≡ listOf (listing (readScript (now (script .entry)))) (now (out .entry)) ⌝ }
 {
-    let mut page = [0; MOST];
-    list_by(script, out, answers, stops, &mut page)
+    let ran = run::run(script, run::WHOLE, answers, stops);
+    if MOST <= out.len() {
+        let length = put_run(out, ran, answers, stops);
+        return Listed {
+            answer: Answer::Done,
+            length,
+        };
+    }
+    put_by_page(out, ran, answers, stops)
 }
 
 // Lists a script: document 01's listing into the lent output, from its start. A refusal leaves the output as it was.
@@ -99,10 +87,7 @@ pub fn list(script: &[u8], out: &mut [u8]) -> Listed
 {
     let mut answers = [0; run::MOST_EVENTS];
     let mut stops = [0; run::MOST_EVENTS];
-    if MOST <= out.len() {
-        return list_into(script, out, &mut answers, &mut stops);
-    }
-    list_by_page(script, out, &mut answers, &mut stops)
+    list_by(script, out, &mut answers, &mut stops)
 }
 
 // The first bytes of a page; all of it where it has no more.

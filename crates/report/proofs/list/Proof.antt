@@ -9,11 +9,6 @@ list-spec =
     (tie.spec
     (λ c. search needs)
     (λ c. search needs)
-    (λ c κs. (made-long 32766, made-long 32766, search needs))
-    (λ c. search needs)
-    (λ c. (search needs, search long-enough))
-    (λ c. search needs)
-    (λ c. search needs)
     (λ c κs. (made-long 32766, made-long 32766))
     (λ c. search needs)
     (λ c. (search needs, search long-enough)))
