@@ -1,9 +1,9 @@
 -- Bytes handed over where they fit.
-use mathlib.Core.Path.{_≡_, sym, ap, _∙_}
+use mathlib.Core.Path.{_≡_, ap, _∙_}
 use Prim.Native.Nat.{ℕ, _+_, _≤_, _<_}
 use native.Mathlib.Omega.{arith}
 use mathlib.Core.List.{List, _++_}
-use lib.ListN.{length, take, drop, replicate, length-replicate}
+use lib.ListN.{length, take, drop}
 use lib.Seq.{take-at, take-length}
 use borrow.Author.Tests.{le-leb, lt-leb}
 use Rattle.base.specs.Spliced.{spliced}
@@ -29,14 +29,12 @@ module _ (bytes lent after : List ℕ) where
 
 -- ---- bytes on a page that is made for them
 
-pub made-count : (n : ℕ) → n ≡ length {A = ℕ} (replicate n 0)
-made-count n = sym (length-replicate {A = ℕ} n 0)
+module _ (bytes page : List ℕ) (most : ℕ) (few : length bytes ≤ most) (l : length page ≡ most) where
+  pub page-room : Room bytes 0 page
+  page-room = omega (arith, few, l)
 
-pub made-room : (bytes : List ℕ) (most : ℕ) → length bytes ≤ most → Room bytes 0 (replicate most 0)
-made-room bytes most few = omega (arith, few, length-replicate {A = ℕ} most 0)
-
-pub page-room : (bytes page after : List ℕ) (n most : ℕ) → Puts bytes page 0 n after → length bytes ≤ most → length after ≡ most → n ≤ length after
-page-room bytes page after n most p few l = omega (arith, few, p .place, l)
+  pub page-holds : (after : List ℕ) (n : ℕ) → Puts bytes page 0 n after → length after ≡ length page → n ≤ length after
+  page-holds after n p k = omega (arith, few, l, p .place, k)
 
 -- what was put on it is its first bytes
 pub page-listed : (bytes page after lent out : List ℕ) (n : ℕ) (t : Listed) → Puts bytes page 0 n after → toldIn t out ≡ listOf (take n after) lent → toldIn t out ≡ listOf bytes lent

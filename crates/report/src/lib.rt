@@ -54,12 +54,17 @@ fn hand(bytes: &[u8], out: &mut [u8]) -> Listed
     }
 }
 
+// A page for every listing. Nothing is ensured of its bytes, so that no proof has to look at them.
+fn blank() -> [u8; MOST] {
+    [0; MOST]
+}
+
 // Writes the listing of a run on a page of its own, which costs an instruction for each of its bytes, and hands it over where it fits.
 fn put_by_page(out: &mut [u8], ran: Ran, answers: &[u8], stops: &[u8]) -> Listed
     requires { ⌜ (length (runLines (outcomeIn ran (now answers) (now stops))) ≤ 426486) × Sized (ran .count) (ran .drive) (now answers) (now stops) ⌝ }
     ensures { λ r. ⌜ toldIn r (now (out .exit)) ≡ listOf (runLines (outcomeIn ran (now (answers .entry)) (now (stops .entry)))) (now (out .entry)) ⌝ }
 {
-    let mut page = [0; MOST];
+    let mut page = blank();
     let length = put_run(&mut page, ran, answers, stops);
     hand(&page[..length], out)
 }

@@ -1,20 +1,23 @@
-use Rattle.report.proofs.Handing.{made-count, made-room, page-room, page-listed}
+use Rattle.report.proofs.Handing.{page-room, page-holds, page-listed}
 use lib.Seq.{length-take-le}
 use borrow.Author.Needs.{needs}
 use Rattle.report.proofs.put_by_page.Statement.{statement}
 use Rattle.report.proofs.put_by_page.Tie as tie
 
+blank-requires : tie.Need-blank-requires
+blank-requires c κs = search needs
+
 slice-aggregate-put-run : tie.Need-slice-aggregate-put-run
-slice-aggregate-put-run c = made-count 426486
+slice-aggregate-put-run c = search needs
 
 put-run-requires : tie.Need-put-run-requires
-put-run-requires c κs = (search (made-room, needs), search needs)
+put-run-requires c κs = (search (page-room, needs), search needs)
 
 array-share-prefix-page : tie.Need-array-share-prefix-page
-array-share-prefix-page c = search (page-room, needs)
+array-share-prefix-page c = search (page-holds, needs)
 
 slice-aggregate-hand : tie.Need-slice-aggregate-hand
-slice-aggregate-hand c = search (length-take-le, page-room, needs)
+slice-aggregate-hand c = search (length-take-le, page-holds, needs)
 
 hand-requires : tie.Need-hand-requires
 hand-requires c κs = search needs
@@ -29,6 +32,7 @@ pub put-by-page-spec : {M : Type 1} → statement M
 put-by-page-spec =
     tie.close
     (tie.spec
+    blank-requires
     slice-aggregate-put-run
     put-run-requires
     array-share-prefix-page
