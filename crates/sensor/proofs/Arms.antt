@@ -2,7 +2,7 @@
 use mathlib.Core.Path.{_≡_, refl, sym, ap, _∙_}
 use Prim.Native.Nat.{ℕ, _-_, _<_, _≤_}
 use native.Mathlib.Omega.{arith}
-use mathlib.Core.Bool.{Bool, true, false, Bool·beq, false≢true}
+use mathlib.Core.Bool.{Bool, true, false, cond, Bool·beq, false≢true, true≢false}
 use lib.Dec.{ltb, eqb}
 use borrow.Author.Tests.{le-ltb, eq-eqb, ne-eqb}
 use Rattle.base.proofs.Cases.{cond-true, cond-false}
@@ -46,6 +46,15 @@ judged v s r l h e q = cond-false (ltb greatestReading v) _ _ _ (le-ltb greatest
 
 pub in-range : (v : ℕ) → v ≤ greatestReading → 0 ≡ readingAnswer v
 in-range v h = cond-false (ltb greatestReading v) _ _ _ (le-ltb greatestReading v h) refl
+
+-- "Any refusal leaves the drive .. untouched"
+pub reading-refused : (v : ℕ) (s : Sensor) → eqb (readingAnswer v) 0 ≡ false → readingOf v s ≡ s
+unfolding readingOf
+reading-refused v s e = go (ltb greatestReading v) e
+  where
+    go : (b : Bool) → eqb (cond b 2 0) 0 ≡ false → cond b s (turnedTo (judgeOf v s) s) ≡ s
+    go true e = refl
+    go false e = absurd (true≢false e)
 
 -- the ticks before the end of a timer
 

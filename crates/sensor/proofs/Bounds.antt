@@ -9,11 +9,11 @@ use Rattle.phases.specs.declared.Phase.the-variants.{SS0, ST0, SS1, ST1, SS2}
 use Rattle.phases.specs.declared.Move.{Move}
 use Rattle.phases.specs.declared.Move.the-variants.{Stays, Enters}
 use Rattle.phases.specs.declared.Cause.{Cause}
-use Rattle.phases.specs.declared.Cause.the-variants.{TimerEnds, PowerCycle}
+use Rattle.phases.specs.declared.Cause.the-variants.{TimerEnds, Disabled, PowerCycle}
 use Rattle.phases.specs.Phases.{moveOf, levelAfter}
 use Rattle.sensor.specs.declared.single.Sensor.{Sensor}
 use Rattle.sensor.specs.Level.{greatestReading}
-use Rattle.sensor.specs.Single.{greatestNumber, freshSensor, withLevel, withTimer, timerIn, movedBy, afterCause, judgeOf, turnCause, turnedTo, readingOf, powerCycleOf, sensorTick}
+use Rattle.sensor.specs.Single.{greatestNumber, freshSensor, withLevel, withTimer, timerIn, movedBy, afterCause, judgeOf, turnCause, turnedTo, readingOf, enableCause, enableOf, disableOf, powerCycleOf, sensorTick}
 use Rattle.sensor.specs.Sound.{Timed}
 
 either : (b : Bool) (x y : Sensor) → Timed x → Timed y → Timed (cond b x y)
@@ -35,7 +35,7 @@ moved-timed : (m : Move) (l : Bool) (s : Sensor) → Timed s → Timed (movedBy 
 moved-timed Stays l s h = record { on = h .on; off = h .off; timer = h .timer }
 moved-timed (Enters p) l s h = record { on = h .on; off = h .off; timer = entered p l s h }
 
-pub step-timed : (c : Cause) (s : Sensor) → Timed s → Timed (afterCause c s)
+step-timed : (c : Cause) (s : Sensor) → Timed s → Timed (afterCause c s)
 unfolding afterCause
 step-timed c s h = moved-timed (moveOf (s .phase) c) (levelAfter c (s .level)) s h
 
@@ -55,3 +55,11 @@ tick-timed s h =
 pub cycle-timed : (s : Sensor) → Timed s → Timed (powerCycleOf s)
 unfolding powerCycleOf
 cycle-timed s h = step-timed PowerCycle s h
+
+pub enable-timed : (s : Sensor) → Timed s → Timed (enableOf s)
+unfolding enableOf
+enable-timed s h = step-timed (enableCause s) s h
+
+pub disable-timed : (s : Sensor) → Timed s → Timed (disableOf s)
+unfolding disableOf
+disable-timed s h = step-timed Disabled s h

@@ -1,23 +1,13 @@
 -- "Any refusal leaves the drive .. untouched": a reading or a Set that is refused leaves the sensor as it was.
 use mathlib.Core.Path.{_≡_, refl}
-use Prim.Native.Nat.{ℕ}
 use mathlib.Core.Bool.{Bool, true, false, not, cond, true≢false}
-use lib.Dec.{eqb, ltb}
+use lib.Dec.{eqb}
 use Rattle.sensor.specs.declared.single.Sensor.{Sensor}
 use Rattle.sensor_set.specs.declared.SensorColumns.{SensorColumns}
 use Rattle.sensor_set.specs.declared.SensorEvent.{SensorEvent}
 use Rattle.sensor_set.specs.declared.SensorEvent.the-variants as E
-use Rattle.sensor.specs.Level.{greatestReading}
-use Rattle.sensor.specs.Single.{judgeOf, turnedTo, readingAnswer, readingOf}
+use Rattle.sensor.proofs.Arms.{reading-refused}
 use Rattle.sensor_set.specs.Columns.{columnsFit, storedOf, switchedOf, setAnswer, setOf, sensorAnswer, sensorAfter}
-
-reading-refused : (v : ℕ) (s : Sensor) → eqb (readingAnswer v) 0 ≡ false → readingOf v s ≡ s
-unfolding readingOf
-reading-refused v s e = go (ltb greatestReading v) e
-  where
-    go : (b : Bool) → eqb (cond b 2 0) 0 ≡ false → cond b s (turnedTo (judgeOf v s) s) ≡ s
-    go true e = refl
-    go false e = absurd (true≢false e)
 
 set-refused : (c : SensorColumns) (s : Sensor) → eqb (setAnswer c) 0 ≡ false → setOf c s ≡ s
 unfolding setOf

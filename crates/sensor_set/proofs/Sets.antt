@@ -6,12 +6,11 @@ use lib.Dec.{eqb}
 use borrow.Author.Tests.{leb-true}
 use Rattle.base.specs.Columns.{named, within}
 use Rattle.base.proofs.Cases.{cond-either}
-use Rattle.phases.specs.declared.Cause.the-variants.{Disabled}
 use Rattle.sensor.specs.declared.single.Sensor.{Sensor}
-use Rattle.sensor.specs.Single.{greatestNumber, greatestFraction, enableCause, enableOf, disableOf}
+use Rattle.sensor.specs.Single.{greatestNumber, greatestFraction, enableOf, disableOf}
 use Rattle.sensor.specs.Sound.{Sound, Timed}
 use Rattle.sensor.proofs.Soundness.{enable-sound, disable-sound}
-use Rattle.sensor.proofs.Bounds.{step-timed}
+use Rattle.sensor.proofs.Bounds.{enable-timed, disable-timed}
 use Rattle.sensor_set.specs.declared.SensorColumns.{SensorColumns}
 use Rattle.sensor_set.specs.Columns.{columnsFit, storedOf, switchedOf, setOf}
 use Rattle.sensor_set.proofs.Fits.{fitting}
@@ -20,6 +19,19 @@ use Rattle.sensor_set.proofs.Fits.{fitting}
 column : (most : ℕ) (n : Bool) (new old : ℕ) → within most n new ≡ true → old ≤ most → cond n new old ≤ most
 column most true new old e h = leb-true new most e
 column most false new old e h = h
+
+-- what enabling, disabling and storing columns that fit keep, a Set keeps
+module _ (P : Sensor → Type 0) (enabled : (s : Sensor) → P s → P (enableOf s)) (disabled : (s : Sensor) → P s → P (disableOf s)) where
+  switched : (c : SensorColumns) (s : Sensor) → P s → P (switchedOf c s)
+  unfolding switchedOf
+  switched c s h =
+      cond-either P (named 1 (c .mask)) (cond (eqb (c .enabled) 1) (enableOf s) (disableOf s)) s
+      (λ e. cond-either P (eqb (c .enabled) 1) (enableOf s) (disableOf s) (λ f. enabled s h) (λ f. disabled s h))
+      (λ e. h)
+
+  set-keeps : ((c : SensorColumns) (s : Sensor) → columnsFit c ≡ true → P s → P (storedOf c s)) → (c : SensorColumns) (s : Sensor) → P s → P (setOf c s)
+  unfolding setOf
+  set-keeps stored c s h = cond-either P (columnsFit c) (switchedOf c (storedOf c s)) s (λ e. switched c (storedOf c s) (stored c s e h)) (λ e. h)
 
 -- ---- soundness
 
@@ -33,17 +45,8 @@ stored-sound c s e h = record {
   «off_fraction» = column greatestFraction (named 32 (c .mask)) (c .«off_fraction») (s .«off_fraction») (fitting c e .«off_fraction») (h .«off_fraction»);
 }
 
-switched-sound : (c : SensorColumns) (s : Sensor) → Sound s → Sound (switchedOf c s)
-unfolding switchedOf
-switched-sound c s h =
-    cond-either Sound (named 1 (c .mask)) (cond (eqb (c .enabled) 1) (enableOf s) (disableOf s)) s
-    (λ e. cond-either Sound (eqb (c .enabled) 1) (enableOf s) (disableOf s) (λ f. enable-sound s h) (λ f. disable-sound s h))
-    (λ e. h)
-
 pub set-sound : (c : SensorColumns) (s : Sensor) → Sound s → Sound (setOf c s)
-unfolding setOf
-set-sound c s h =
-    cond-either Sound (columnsFit c) (switchedOf c (storedOf c s)) s (λ e. switched-sound c (storedOf c s) (stored-sound c s e h)) (λ e. h)
+set-sound = set-keeps Sound enable-sound disable-sound stored-sound
 
 -- ---- the bounds of timers
 
@@ -55,14 +58,5 @@ stored-timed c s e h = record {
   timer = h .timer;
 }
 
-switched-timed : (c : SensorColumns) (s : Sensor) → Timed s → Timed (switchedOf c s)
-unfolding switchedOf enableOf disableOf
-switched-timed c s h =
-    cond-either Timed (named 1 (c .mask)) (cond (eqb (c .enabled) 1) (enableOf s) (disableOf s)) s
-    (λ e. cond-either Timed (eqb (c .enabled) 1) (enableOf s) (disableOf s) (λ f. step-timed (enableCause s) s h) (λ f. step-timed Disabled s h))
-    (λ e. h)
-
 pub set-timed : (c : SensorColumns) (s : Sensor) → Timed s → Timed (setOf c s)
-unfolding setOf
-set-timed c s h =
-    cond-either Timed (columnsFit c) (switchedOf c (storedOf c s)) s (λ e. switched-timed c (storedOf c s) (stored-timed c s e h)) (λ e. h)
+set-timed = set-keeps Timed enable-timed disable-timed stored-timed
