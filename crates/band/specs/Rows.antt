@@ -1,6 +1,6 @@
 -- Document 01, 'Bands': a row, its two sides, settling and resets.
 use Prim.Native.Nat.{ℕ, zero, suc}
-use mathlib.Core.Bool.{Bool, true, false, not, cond, _&&_, _||_}
+use mathlib.Core.Bool.{Bool, true, false, cond, _&&_, _||_}
 use mathlib.Core.List.{List, []}
 use Rattle.base.specs.Columns.{named}
 use Rattle.expression.specs.Elements.{elementsIn, expressionOf}

@@ -2,7 +2,7 @@
 use Prim.Native.Nat.{ℕ, zero, suc}
 use mathlib.Core.Path.{_≡_, refl, sym, ap, ap₂, _∙_}
 use mathlib.Core.Bool.{Bool, true, false, cond, _&&_, false≢true}
-use mathlib.Core.List.{List, [], _∷_, map}
+use mathlib.Core.List.{List, _∷_, map}
 use lib.Dec.{eqb, ltb}
 use lib.ListN.{length, getD, length-map}
 use lib.Seq.{take-at}
@@ -36,7 +36,7 @@ use Rattle.drive.specs.declared.Drive.{Drive}
 use Rattle.drive.specs.State.{withRows, withSensors, conditionsOf, rowAt, valueAt, settleOf, tickOf}
 use Rattle.drive.specs.Events.{Shape, ticking, resetting, setting, sensing, placing, looking, shapeOf, ifSetting, actBy}
 use Rattle.drive.specs.Events.{Event, reading, elapse, reset, sensorSet, bandSet, geometry, transfer, noRow, rowRefusalsIf, heldUnder, formedFrom, answerOf, resetOf, actOf, stepOf}
-use Rattle.condition.specs.History.{granted, ownSet}
+use Rattle.condition.specs.History.{granted}
 use Rattle.condition.specs.Compared.{staysBy, mentionedIn, refersIn, stays}
 
 abbrev pub sensorAt : Drive → ℕ → Sensor

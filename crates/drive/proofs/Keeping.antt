@@ -1,11 +1,9 @@
 -- What every event keeps, whatever the drive: the header and the lengths, and whatever its parts keep of each sensor.
 use Prim.Native.Nat.{ℕ, suc}
 use mathlib.Core.Path.{_≡_, refl, ap, _∙_}
-use mathlib.Core.Bool.{Bool, cond}
 use mathlib.Core.List.{List, [], _∷_, map}
 use lib.Dec.{eqb}
 use lib.ListN.{length, getD, length-map, length-set}
-use Rattle.base.specs.Rows.{modify}
 use Rattle.base.proofs.Cases.{cond-either}
 use Rattle.base.proofs.Jumps.{ticks-keep}
 use Rattle.base.proofs.Lists.{getD-same}

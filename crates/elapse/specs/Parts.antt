@@ -1,7 +1,6 @@
 -- What the code does in an elapse between two stops.
 use Prim.Native.Nat.{ℕ}
 use mathlib.Core.List.{map}
-use Rattle.base.specs.Ticks.{ticks}
 use Rattle.sensor.specs.Parts.{loweredBy}
 use Rattle.drive.specs.declared.Drive.{Drive}
 use Rattle.drive.specs.State.{withSensors}

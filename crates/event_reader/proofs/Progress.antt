@@ -1,12 +1,12 @@
 -- An event ends at least two bytes after the place at which it starts, and within the script.
 use mathlib.Core.Path.{_≡_, refl, subst}
-use Prim.Native.Nat.{ℕ, suc, _+_, _-_, _*_, _%_, _≤_, _<_}
+use Prim.Native.Nat.{ℕ, _+_, _-_, _≤_, _<_}
 use native.Mathlib.Omega.{arith}
-use mathlib.Core.List.{List, [], _∷_}
+use mathlib.Core.List.{List}
 use mathlib.Core.Bool.{Bool, true, false, cond}
 use lib.Dec.{eqb, leb, ltb}
-use lib.ListN.{length, drop, drop-of-length-le, length-drop}
-use borrow.Author.Tests.{ltb-true, ltb-false, leb-true}
+use lib.ListN.{length}
+use borrow.Author.Tests.{leb-true}
 use Rattle.base.specs.Columns.{named}
 use Rattle.base.proofs.Cases.{cond-either}
 use Rattle.numbers.specs.Groups.{Found, found, none, numberAt}

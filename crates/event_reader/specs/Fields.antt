@@ -1,7 +1,7 @@
 -- Document 01, 'Script': the events and their fields, each read at its place.
 use Prim.Native.Nat.{ℕ, _+_, _-_}
 use mathlib.Core.Bool.{cond}
-use mathlib.Core.List.{List, [], _∷_}
+use mathlib.Core.List.{List, []}
 use lib.Dec.{eqb, leb, ltb}
 use lib.ListN.{length, take, drop}
 use Rattle.base.specs.Columns.{named}
@@ -12,8 +12,6 @@ use Rattle.band_columns.specs.Sets.{bandMasks}
 use Rattle.drive.specs.Events.{Event, reading, elapse, reset, sensorSet, bandSet, geometry, transfer, eventOf}
 use Rattle.event_reader.specs.declared.EventRead.{EventRead}
 use Rattle.event_reader.specs.declared.EventRead.the-variants as R
-use Rattle.event_reader.specs.declared.FirstColumns.the-variants as F
-use Rattle.event_reader.specs.declared.BytesRead.the-variants as P
 
 -- what stands at a place: an event and the place after it, or none
 pub data Parsed : Type 0 where

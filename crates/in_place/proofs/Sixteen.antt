@@ -1,22 +1,18 @@
 -- What the run keeps of its drive: each event leaves sixteen rows and sensors, and bands that are settled; the fresh drive has them.
 use mathlib.Core.Path.{_≡_, refl, sym, ap, _∙_, subst}
-use Prim.Native.Nat.{ℕ, zero, suc}
+use Prim.Native.Nat.{ℕ}
 use mathlib.Core.Bool.{Bool, true, false, cond}
-use mathlib.Core.List.{List, [], _∷_, map}
-use lib.Dec.{eqb}
-use lib.ListN.{length, replicate, length-map}
+use mathlib.Core.List.{List}
+use lib.ListN.{replicate}
 use Rattle.base.specs.Lists.{any}
-use Rattle.base.specs.Rows.{modify}
-use Rattle.base.proofs.Jumps.{ticks-keep}
-use Rattle.sensor.specs.Single.{powerCycleOf}
 use Rattle.band.specs.declared.Row.{Row}
 use Rattle.band.specs.Rows.{freshRow}
 use Rattle.band.specs.Parts.{isLockable}
 use Rattle.bands.proofs.Steady.{settle-steady}
 use Rattle.drive.specs.declared.Drive.{Drive}
 use Rattle.drive.specs.declared.Fresh.{Fresh}
-use Rattle.drive.specs.State.{headerFits, freshDrive, Freshens, withRows, settleOf, tickOf}
-use Rattle.drive.specs.Events.{Event, reading, elapse, reset, sensorSet, bandSet, geometry, transfer, answerOf, actOf, stepOf}
+use Rattle.drive.specs.State.{headerFits, freshDrive, Freshens, withRows, settleOf}
+use Rattle.drive.specs.Events.{Event, stepOf}
 use Rattle.drive.proofs.Keeping.{step-keeps}
 use Rattle.drive.proofs.Settling.{step-settled}
 use Rattle.in_place.specs.Parts.{SettledSixteen}

@@ -5,7 +5,7 @@ use native.Mathlib.Omega.{arith}
 use mathlib.Core.Bool.{Bool, true, false, not, cond, _&&_}
 use mathlib.Core.List.{List, [], _∷_, map}
 use lib.Dec.{eqb, leb, ltb}
-use lib.ListN.{length, getD, replicate}
+use lib.ListN.{length, replicate}
 use borrow.Author.Tests.{leb-true, eqb-true, not-false}
 use Rattle.base.specs.Columns.{named, within}
 use Rattle.base.specs.Rows.{isRow}
@@ -21,7 +21,6 @@ use Rattle.sensor.specs.Sound.{Sound}
 use Rattle.sensor.proofs.Soundness.{fresh-sound, tick-sound, reading-sound, power-cycle-sound}
 use Rattle.sensor_set.proofs.Sets.{set-sound}
 use Rattle.sensor.proofs.Motion.{fresh-tick, fresh-power-cycle}
-use Rattle.expression.specs.declared.Expression.{Expression}
 use Rattle.token_reader.specs.Format.{Bytes}
 use Rattle.token_reader.specs.Read.{TokenOutcome, elements, refusal, readTokens, expressionIn}
 use Rattle.token_reader.proofs.Fits.{read-fits}

@@ -3,7 +3,7 @@ use mathlib.Core.Path.{_≡_, refl, sym, ap, _∙_, subst}
 use Prim.Native.Nat.{ℕ, _<_}
 use native.Mathlib.Omega.{arith}
 use mathlib.Core.List.{List, map}
-use lib.ListN.{length, getD, set, replicate, length-map, length-replicate, List·getD-map}
+use lib.ListN.{getD, set, replicate, length-map, length-replicate, List·getD-map}
 use Rattle.base.specs.Rows.{modify}
 use Rattle.base.proofs.Lists.{getD-same}
 use Rattle.base.proofs.Rows.{modify-set, length-modify, modify-other, modify-keeps}

@@ -1,21 +1,14 @@
 -- The starred cases of document 01.
-use mathlib.Core.Path.{_≡_, refl, sym, ap, _∙_}
-use Prim.Native.Nat.{ℕ, _≤_}
+use mathlib.Core.Path.{_≡_, refl, sym, ap}
 use native.Mathlib.Omega.{arith}
-use mathlib.Core.Bool.{Bool, true, false, not, cond, Bool·beq}
+use mathlib.Core.Bool.{Bool, true, not}
 use mathlib.Core.List.{List, [], _∷_}
-use lib.Dec.{eqb}
 use lib.ListN.{length}
-use borrow.Author.Tests.{le-ltb}
 use Rattle.base.specs.Lists.{any}
 use Rattle.base.specs.Ticks.{ticks, stops}
-use Rattle.phases.specs.declared.Move.{Move}
-use Rattle.phases.specs.declared.Move.the-variants.{Stays, Enters}
-use Rattle.phases.specs.declared.Cause.the-variants.{TrueAtOnce, TrueWaiting, FalseAtOnce, FalseWaiting}
-use Rattle.phases.specs.Phases.{isEnabled, moveOf, levelAfter}
-use Rattle.sensor.specs.declared.single.Sensor.{Sensor}
-use Rattle.sensor.specs.Level.{greatestReading, levelRule}
-use Rattle.sensor.specs.Single.{freshSensor, onOf, offOf, moved, movedBy, withLevel, judgeOf, turnCause, turnedTo, readingOf, enableOf}
+use Rattle.phases.specs.Phases.{moveOf}
+use Rattle.sensor.specs.Level.{levelRule}
+use Rattle.sensor.specs.Single.{freshSensor, judgeOf, turnedTo, readingOf, enableOf}
 use Rattle.sensor.specs.Single.{afterCause}
 use Rattle.sensor.specs.Single.{sensorTick}
 use Rattle.sensor_set.specs.Columns.{columnsFit, storedOf, switchedOf, setOf}

@@ -8,7 +8,6 @@ use lib.ListN.{length, take}
 use Rattle.answer.specs.declared.Answer.{Answer}
 use Rattle.drive.specs.State.{freshDrive}
 use Rattle.drive.specs.Events.{Event}
-use Rattle.script.specs.Events.{events}
 use Rattle.script.specs.Whole.{accepted, readScript}
 use Rattle.run.specs.declared.Ran.{Ran}
 use Rattle.run.specs.Outcome.{outcomeIn, runEvents}

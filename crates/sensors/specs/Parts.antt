@@ -4,7 +4,6 @@ use mathlib.Core.Bool.{cond}
 use mathlib.Core.List.{List, foldl, map}
 use lib.Dec.{eqb}
 use Rattle.base.specs.Lists.{any, oneIf}
-use Rattle.base.specs.Ticks.{ticks}
 use Rattle.sensor.specs.declared.single.Sensor.{Sensor}
 use Rattle.sensor.specs.Single.{sensorTick, endsNext}
 use Rattle.sensor.specs.Parts.{loweredBy, quietOf}

@@ -1,6 +1,6 @@
 -- Document 01, 'Sensors': the sensors of a drive. Its array is a list here; all sixteen tick, whatever the header counts.
 use mathlib.Core.Path.{_≡_}
-use Prim.Native.Nat.{ℕ, zero, suc, _-_, _≤_}
+use Prim.Native.Nat.{ℕ, zero, suc, _≤_}
 use mathlib.Core.Bool.{Bool, false}
 use mathlib.Core.List.{List, [], _∷_, map}
 use Rattle.base.specs.Lists.{any}

@@ -4,7 +4,7 @@ use mathlib.Core.List.{List, []}
 use Rattle.answer.specs.declared.Answer.{Answer}
 use Rattle.expression.specs.Elements.{expressionOf}
 use Rattle.token_reader.specs.declared.Tokens.{Tokens}
-use Rattle.token_reader.specs.Read.{readList, Tells, refusal}
+use Rattle.token_reader.specs.Read.{readList, Tells}
 
 abbrev pub ReadsList : List ℕ → Tokens → Type 0
 ReadsList bytes r = Tells (readList bytes) r
