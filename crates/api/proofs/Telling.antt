@@ -27,7 +27,7 @@ use Rattle.drive.specs.declared.Kind.the-variants as K
 use Rattle.drive.specs.declared.Reply.{Reply}
 use Rattle.drive.specs.State.{headerFits, freshDrive, Freshens}
 use Rattle.drive.specs.Events.{Event, answerOf, stopsOf, eventOf, runOf, Replies}
-use Rattle.script.specs.Whole.{Script, accepted, bad, readScript}
+use Rattle.script.specs.Whole.{mostScriptBytes, mostEvents, Script, accepted, bad, readScript}
 use Rattle.run.specs.Outcome.{RunOutcome, outcome, outcomeIn, runScript}
 use Rattle.run.specs.declared.Ran.{Ran}
 use Rattle.report.specs.declared.Listed.{Listed}
@@ -207,15 +207,15 @@ abbrev leftBy : Script → ℕ × Drive
 leftBy (accepted capacity bands sensors es) = (0, runOf (freshDrive capacity bands sensors) es)
 leftBy (bad place) = (10, freshDrive 1 1 0)
 
-module _ (s answers stops : List ℕ) (long : 32766 ≤ length answers) (wide : 32766 ≤ length stops) where
-  run-left : answerAndDrive (runScript (readScript s) 65536 answers stops) ≡ leftBy (readScript s)
+module _ (s answers stops : List ℕ) (long : mostEvents ≤ length answers) (wide : mostEvents ≤ length stops) where
+  run-left : answerAndDrive (runScript (readScript s) mostScriptBytes answers stops) ≡ leftBy (readScript s)
   run-left = go (readScript s) refl
     where
-      go : (o : Script) → readScript s ≡ o → answerAndDrive (runScript o 65536 answers stops) ≡ leftBy o
+      go : (o : Script) → readScript s ≡ o → answerAndDrive (runScript o mostScriptBytes answers stops) ≡ leftBy o
       go (accepted capacity bands sensors es) q = ap answerAndDrive (whole s answers stops long wide capacity bands sensors es q)
       go (bad place) q = refl
 
-  module _ (r : Ran) (answers' stops' : List ℕ) (w : outcomeIn r answers' stops' ≡ runScript (readScript s) 65536 answers stops)
+  module _ (r : Ran) (answers' stops' : List ℕ) (w : outcomeIn r answers' stops' ≡ runScript (readScript s) mostScriptBytes answers stops)
       (number : ℕ) (e : number ≡ numberOf (r .answer)) where
     left : (numberOf (r .answer), r .drive) ≡ leftBy (readScript s)
     left = ap answerAndDrive w ∙ run-left

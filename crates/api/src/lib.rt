@@ -5,7 +5,7 @@ ghost use Prim.Native.Nat.{_≤_};
 ghost use lib.ListN.{length, getD};
 ghost use Rattle.token_reader.specs.Read.{readTokens};
 ghost use Rattle.drive.specs.Events.{eventOf};
-ghost use Rattle.script.specs.Whole.{readScript};
+ghost use Rattle.script.specs.Whole.{mostEvents, readScript};
 ghost use Rattle.drive.specs.Events.{over};
 ghost use Rattle.run.specs.Outcome.{runScript};
 ghost use Rattle.report.specs.Listing.{told, listing, listOf};
@@ -231,7 +231,7 @@ fn event_by(
     answers: &mut [u8],
     counts: &mut [u8],
 ) -> u8
-    requires { ⌜ (32766 ≤ length (now answers)) × (32766 ≤ length (now counts)) ⌝ }
+    requires { ⌜ (mostEvents ≤ length (now answers)) × (mostEvents ≤ length (now counts)) ⌝ }
     ensures { λ r. ⌜ answered r (now (stops .exit)) ≡ eventOn (readScript (now (script .entry))) (eventOf kind (now (tokens .entry))) ⌝ }
 {
     let ran = run::run(script, run::WHOLE, answers, counts);

@@ -23,30 +23,10 @@ pub struct Row {
     pub expression: Expression,
 }
 
-fn and(a: bool, b: bool) -> bool
-    ensures { λ r. ⌜ r ≡ (a && b) ⌝ }
-{
-    a && b
-}
-
-fn or(a: bool, b: bool) -> bool
-    ensures { λ r. ⌜ r ≡ (a || b) ⌝ }
-{
-    a || b
-}
-
 fn negated(a: bool) -> bool
     ensures { λ r. ⌜ r ≡ not a ⌝ }
 {
     !a
-}
-
-// Whether a set of bits holds one bit.
-fn has(set: u64, bit: u64) -> bool
-    requires { ⌜ 0 < bit ⌝ }
-    ensures { λ r. ⌜ r ≡ named bit set ⌝ }
-{
-    set / bit % 2 == 1
 }
 
 impl Row {
@@ -72,8 +52,8 @@ impl Row {
         ensures { λ r. ⌜ r ≡ closedOn side self ⌝ }
     {
         match side {
-            Side::Read => and(self.read_lock_enabled, self.read_locked),
-            Side::Write => and(self.write_lock_enabled, self.write_locked),
+            Side::Read => base::and(self.read_lock_enabled, self.read_locked),
+            Side::Write => base::and(self.write_lock_enabled, self.write_locked),
         }
     }
 
@@ -97,8 +77,8 @@ impl Row {
     fn lock_under(self, v: bool) -> Row
         ensures { λ r. ⌜ r ≡ lockUnder v self ⌝ }
     {
-        let read = or(self.read_locked, and(self.read_lock_enabled, v));
-        let write = or(self.write_locked, and(self.write_lock_enabled, v));
+        let read = base::or(self.read_locked, base::and(self.read_lock_enabled, v));
+        let write = base::or(self.write_locked, base::and(self.write_lock_enabled, v));
         self.with_locked(read, write)
     }
 
@@ -106,9 +86,9 @@ impl Row {
     pub fn lockable(self) -> bool
         ensures { λ r. ⌜ r ≡ isLockable self ⌝ }
     {
-        let read = and(self.read_lock_enabled, negated(self.read_locked));
-        let write = and(self.write_lock_enabled, negated(self.write_locked));
-        or(read, write)
+        let read = base::and(self.read_lock_enabled, negated(self.read_locked));
+        let write = base::and(self.write_lock_enabled, negated(self.write_locked));
+        base::or(read, write)
     }
 
     // Whether a reset of a type and then settling lock what is enabled: the type is in the row's set, or the expression is TRUE.
@@ -155,9 +135,9 @@ fn in_set(set: u64, reset_type: u64) -> bool
     ensures { λ r. ⌜ r ≡ inSet set «reset_type» ⌝ }
 {
     match reset_type {
-        0 => has(set, 1),
-        1 => has(set, 2),
-        2 => has(set, 4),
+        0 => base::names(set, 1),
+        1 => base::names(set, 2),
+        2 => base::names(set, 4),
         _ => false,
     }
 }

@@ -19,26 +19,6 @@ pub struct BandColumns {
     pub lock_on_reset: u64,
 }
 
-fn and(a: bool, b: bool) -> bool
-    ensures { λ r. ⌜ r ≡ (a && b) ⌝ }
-{
-    a && b
-}
-
-fn or(a: bool, b: bool) -> bool
-    ensures { λ r. ⌜ r ≡ (a || b) ⌝ }
-{
-    a || b
-}
-
-// Whether the mask names the column of a bit.
-fn names(mask: u64, bit: u64) -> bool
-    requires { ⌜ 0 < bit ⌝ }
-    ensures { λ r. ⌜ r ≡ named bit mask ⌝ }
-{
-    mask / bit % 2 == 1
-}
-
 impl BandColumns {
     // The masks of six bits are those below.
     pub const MASKS: u64 = 64;
@@ -54,26 +34,26 @@ impl BandColumns {
         if BandColumns::MASKS <= mask {
             return false;
         }
-        if !in_range(mask, 1, self.read_lock_enabled, 1) {
+        if !base::in_range(mask, 1, self.read_lock_enabled, 1) {
             return false;
         }
-        if !in_range(mask, 2, self.write_lock_enabled, 1) {
+        if !base::in_range(mask, 2, self.write_lock_enabled, 1) {
             return false;
         }
-        if !in_range(mask, 4, self.read_locked, 1) {
+        if !base::in_range(mask, 4, self.read_locked, 1) {
             return false;
         }
-        if !in_range(mask, 8, self.write_locked, 1) {
+        if !base::in_range(mask, 8, self.write_locked, 1) {
             return false;
         }
-        in_range(mask, 16, self.lock_on_reset, BandColumns::ALL_RESETS)
+        base::in_range(mask, 16, self.lock_on_reset, BandColumns::ALL_RESETS)
     }
 
     // Whether the Set names the expression.
     pub fn names_expression(self) -> bool
         ensures { λ r. ⌜ r ≡ named 32 (self .mask) ⌝ }
     {
-        names(self.mask, 32)
+        base::names(self.mask, 32)
     }
 }
 
@@ -97,62 +77,47 @@ pub fn form(row: Row, columns: BandColumns, expression: Expression) -> Row
 pub fn held(row: Row, columns: BandColumns, v: bool) -> bool
     ensures { λ r. ⌜ r ≡ heldBy columns row v ⌝ }
 {
-    let read = and(
+    let read = base::and(
         names_zero(columns.mask, 4, columns.read_locked),
-        and(row.read_lock_enabled, v),
+        base::and(row.read_lock_enabled, v),
     );
-    let write = and(
+    let write = base::and(
         names_zero(columns.mask, 8, columns.write_locked),
-        and(row.write_lock_enabled, v),
+        base::and(row.write_lock_enabled, v),
     );
-    or(read, write)
-}
-
-// Whether a value is at most `most`, where the mask names it.
-fn in_range(mask: u64, bit: u64, value: u64, most: u64) -> bool
-    requires { ⌜ 0 < bit ⌝ }
-    ensures { λ r. ⌜ r ≡ within most (named bit mask) value ⌝ }
-{
-    if names(mask, bit) {
-        return value <= most;
-    }
-    true
+    base::or(read, write)
 }
 
 // Whether a Set names a column as 0.
 fn names_zero(mask: u64, bit: u64, value: u64) -> bool
-    requires { ⌜ 0 < bit ⌝ }
     ensures { λ r. ⌜ r ≡ (named bit mask && eqb value 0) ⌝ }
 {
-    and(names(mask, bit), value == 0)
+    base::and(base::names(mask, bit), value == 0)
 }
 
 // A column after a Set, for each type of column: the value where the mask names it, else as it was.
 fn flag(mask: u64, bit: u64, value: u64, former: bool) -> bool
-    requires { ⌜ 0 < bit ⌝ }
     ensures { λ r. ⌜ r ≡ cond (named bit mask) (eqb value 1) former ⌝ }
 {
-    if names(mask, bit) {
+    if base::names(mask, bit) {
         return value == 1;
     }
     former
 }
 
 fn number(mask: u64, bit: u64, value: u64, former: u64) -> u64
-    requires { ⌜ 0 < bit ⌝ }
     ensures { λ r. ⌜ r ≡ cond (named bit mask) value former ⌝ }
 {
-    if names(mask, bit) {
+    if base::names(mask, bit) {
         return value;
     }
     former
 }
 
 fn list(mask: u64, bit: u64, value: Expression, former: Expression) -> Expression
-    requires { ⌜ 0 < bit ⌝ }
     ensures { λ r. ⌜ r ≡ cond (named bit mask) value former ⌝ }
 {
-    if names(mask, bit) {
+    if base::names(mask, bit) {
         return value;
     }
     former

@@ -1,10 +1,10 @@
 -- Laws of a Set's columns: a range test, where the mask names the column and where it does not.
-use mathlib.Core.Path.{_≡_, refl, sym, _∙_}
-use Prim.Native.Nat.{ℕ, _≤_}
+use mathlib.Core.Path.{_≡_, refl, sym, ap, _∙_}
+use Prim.Native.Nat.{ℕ, _%_, _≤_, div·zero}
 use mathlib.Core.Bool.{Bool, true, false, false≢true}
-use lib.Dec.{leb}
+use lib.Dec.{eqb, leb}
 use borrow.Author.Tests.{leb-true}
-use Rattle.base.specs.Columns.{within}
+use Rattle.base.specs.Columns.{named, within}
 
 -- a named value of a range is at most its greatest
 pub named-fits : (most v : ℕ) (t n : Bool) → within most n v ≡ true → t ≡ n → t ≡ true → v ≤ most
@@ -19,3 +19,7 @@ within-named most v t false p e = absurd (false≢true (sym p ∙ e))
 pub within-free : (most v : ℕ) (t n : Bool) → t ≡ n → t ≡ false → true ≡ within most n v
 within-free most v t true p e = absurd (false≢true (sym e ∙ p))
 within-free most v t false p e = refl
+
+-- no column has the bit 0
+pub named-none : (mask bit : ℕ) → bit ≡ 0 → false ≡ named bit mask
+named-none mask bit e = ap (λ (n : ℕ). eqb (n % 2) 1) (sym (div·zero mask)) ∙ ap (λ (b : ℕ). named b mask) (sym e)

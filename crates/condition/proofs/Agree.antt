@@ -16,9 +16,9 @@ use Rattle.base.proofs.Cases.{and-yes}
 use Rattle.base.proofs.Lists.{getD-map}
 use Rattle.base.proofs.Rows.{apart, modify-agree, modify-other, modify-keeps, length-modify}
 use Rattle.sensor.specs.declared.single.Sensor.{Sensor}
-use Rattle.sensor.specs.Single.{freshSensor, readingRefusals, powerCycleOf}
+use Rattle.sensor.specs.Single.{freshSensor, powerCycleOf}
 use Rattle.sensor.specs.Single.{sensorTick}
-use Rattle.sensor_set.specs.Columns.{setRefusals, sensorAfter}
+use Rattle.sensor_set.specs.Columns.{sensorRefusals, sensorAfter}
 use Rattle.sensor.proofs.Motion.{fresh-tick, fresh-power-cycle}
 use Rattle.sensors.specs.Sixteen.{conditionsBelow}
 use Rattle.sensors.proofs.Gather.{condition-below, condition-past}
@@ -35,7 +35,7 @@ use Rattle.band.proofs.Settling.{settle-again, fresh-settles, fresh-reset}
 use Rattle.drive.specs.declared.Drive.{Drive}
 use Rattle.drive.specs.State.{withRows, withSensors, conditionsOf, rowAt, valueAt, settleOf, tickOf}
 use Rattle.drive.specs.Events.{Shape, ticking, resetting, setting, sensing, placing, looking, shapeOf, ifSetting, actBy}
-use Rattle.drive.specs.Events.{Event, reading, elapse, reset, sensorSet, bandSet, geometry, transfer, noRow, rowRefusalsIf, heldUnder, formedFrom, answerOf, resetOf, actOf, stepOf}
+use Rattle.drive.specs.Events.{Event, bandSet, noRow, rowRefusalsIf, refusalsBy, heldUnder, formedFrom, answerOf, resetOf, actOf, stepOf}
 use Rattle.condition.specs.History.{granted}
 use Rattle.condition.specs.Compared.{staysBy, mentionedIn, refersIn, stays}
 
@@ -262,16 +262,18 @@ module _ (B N : ℕ → Bool) where
       (formed-within c bytes (rowAt e b) (λ r u. p .within b t r (rw (p .band b t) u)) (own-fit b c bytes t w)))
 
   -- an event that stays gets the same answer
+  shape-answer : {d e : Drive} (y : Shape) → staysBy B N y ≡ true → FitBy y → Same B N d e → firstOf (refusalsBy d y) ≡ firstOf (refusalsBy e y)
+  shape-answer (ticking n) t w p = refl
+  shape-answer (resetting n) t w p = refl
+  shape-answer (setting b c bytes) t w p =
+      ap₂ (λ (n : ℕ) (h : Bool). firstOf (noRow n b ∷ rowRefusalsIf c bytes h)) (p .bandCount) (held-same b c bytes t w p)
+  shape-answer (sensing s y) t w p = ap (λ (n : ℕ). firstOf (noRow n s ∷ sensorRefusals y)) (p .sensorCount)
+  shape-answer (placing b start n) t w p = absurd (false≢true t)
+  shape-answer (looking v start n) t w p = absurd (false≢true t)
+
   pub answer-same : {d e : Drive} (x : Event) → stays B N x ≡ true → Fit x → Same B N d e → answerOf d x ≡ answerOf e x
   unfolding answerOf stays
-  answer-same (reading s v) t w p = ap (λ (n : ℕ). firstOf (noRow n s ∷ readingRefusals v)) (p .sensorCount)
-  answer-same (elapse n) t w p = refl
-  answer-same (reset n) t w p = refl
-  answer-same (sensorSet s c) t w p = ap (λ (n : ℕ). firstOf (noRow n s ∷ setRefusals c)) (p .sensorCount)
-  answer-same {d} {e} (bandSet b c bytes) t w p =
-      ap₂ (λ (n : ℕ) (h : Bool). firstOf (noRow n b ∷ rowRefusalsIf c bytes h)) (p .bandCount) (held-same b c bytes t w p)
-  answer-same (geometry b start n) t w p = absurd (false≢true t)
-  answer-same (transfer v start n) t w p = absurd (false≢true t)
+  answer-same x t w p = shape-answer (shapeOf x) t w p
 
   shape-same : {d e : Drive} (y : Shape) → staysBy B N y ≡ true → FitBy y → Same B N d e → Same B N (actBy d y) (actBy e y)
   shape-same (ticking n) t w p = ticks-same n p
@@ -279,7 +281,7 @@ module _ (B N : ℕ → Bool) where
   shape-same (setting b c bytes) t w p = band-same b c bytes (own-fit b c bytes t w) p
   shape-same (sensing s y) t w p = sensor-same s (sensorAfter y) p
   shape-same (placing b start n) t w p = absurd (false≢true t)
-  shape-same looking t w p = absurd (false≢true t)
+  shape-same (looking v start n) t w p = absurd (false≢true t)
 
   act-same : {d e : Drive} (x : Event) → stays B N x ≡ true → Fit x → Same B N d e → Same B N (actOf d x) (actOf e x)
   unfolding actOf stays
@@ -314,7 +316,7 @@ module _ (B N : ℕ → Bool) where
     sensor = λ s t. refl;
     within = p .within;
   }
-  shape-struck looking t p = p
+  shape-struck (looking v start n) t p = p
 
   act-struck : {d : Drive} (x : Event) → stays B N x ≡ false → Same B N d d → Same B N (actOf d x) d
   unfolding actOf stays

@@ -71,7 +71,7 @@ module _ (band : ℕ) where
       go (setting b c bytes) t = absurd (false≢true t)
       go (sensing s y) t = absurd (false≢true t)
       go (placing b start n) t = absurd (false≢true t)
-      go looking t = absurd (false≢true t)
+      go (looking w start n) t = absurd (false≢true t)
 
   step-fresh : (d : Drive) (x : Event) → isTime x → rowAt d band ≡ freshRow → rowAt (stepOf d x) band ≡ freshRow
   unfolding stepOf

@@ -3,27 +3,14 @@ use Prim.Native.Nat.{ℕ}
 use mathlib.Core.Path.{_≡_, refl}
 use mathlib.Core.Bool.{Bool, true, false}
 use mathlib.Core.List.{List, [], _∷_}
-use Rattle.base.specs.Lists.{any}
-use Rattle.base.specs.Ticks.{ticks}
-use Rattle.phases.specs.Phases.{moveOf}
-use Rattle.sensor.specs.Level.{levelRule}
-use Rattle.sensor.specs.Single.{freshSensor, judgeOf, turnedTo, readingOf, enableOf}
-use Rattle.sensor.specs.Single.{afterCause, sensorTick}
-use Rattle.sensor_set.specs.Columns.{storedOf, switchedOf, setOf}
-use Rattle.sensor_set.specs.Columns.{columnsFit as sensorColumnsFit}
-use Rattle.sensors.specs.Sixteen.{conditionsBelow}
 use Rattle.evaluator.specs.Value.{evaluate, valueOf, mentions}
-use Rattle.token_reader.specs.Format.{startsWith, partIn, isEnd}
-use Rattle.token_reader.specs.Read.{readElements, readList, readTokens}
 use Rattle.band.specs.declared.Side.{Side}
 use Rattle.band.specs.declared.Side.the-variants.{Read, Write}
-use Rattle.band.specs.Rows.{freshRow, lockedOn, settleRow, resetRow}
-use Rattle.band_columns.specs.Sets.{formedRow}
-use Rattle.band_columns.specs.Sets.{columnsFit as bandColumnsFit}
-use Rattle.geometry.specs.Blocks.{anyBlock, bandOf}
+use Rattle.band.specs.Rows.{lockedOn}
 use Rattle.drive.specs.declared.Drive.{Drive}
-use Rattle.drive.specs.State.{freshDrive, rowAt, conditionsOf, settleOf, tickOf}
-use Rattle.drive.specs.Events.{Event, reading, elapse, reset, sensorSet, bandSet, geometry, transfer, answerOf, actOf, stepOf, runOf}
+use Rattle.drive.specs.State.{freshDrive, rowAt}
+use Rattle.drive.specs.Events.{Event, reading, elapse, reset, sensorSet, bandSet, geometry, transfer, runOf}
+use Rattle.drive.proofs.Rules.{drive-rules}
 use Rattle.condition.specs.History.{tickMoments, moments, unlocks, locks}
 use Rattle.condition.specs.Compared.{refersIn, namedIn, stays, keep, compared, answersTo}
 use Rattle.condition.proofs.Flags.{flagAfter}
@@ -139,7 +126,7 @@ record Worked : Type 0 where
   no-tokens : compared 1 (bandOn 1 32 0 0 (0 ∷ rowZero) ∷ reading 0 7 ∷ []) ≡ bandOn 1 32 0 0 (0 ∷ rowZero) ∷ []
 
 worked : Worked
-unfolding any ticks moveOf levelRule freshSensor judgeOf turnedTo readingOf enableOf afterCause sensorTick storedOf switchedOf setOf sensorColumnsFit conditionsBelow evaluate valueOf mentions startsWith partIn isEnd readElements readList readTokens freshRow settleRow resetRow formedRow bandColumnsFit anyBlock bandOf freshDrive conditionsOf settleOf tickOf answerOf actOf stepOf runOf tickMoments moments unlocks locks refersIn namedIn stays keep compared answersTo flagAfter
+unfolding drive-rules evaluate valueOf mentions tickMoments moments unlocks locks refersIn namedIn stays keep compared answersTo flagAfter
 worked = record {
   script-list = refl;
   script-answers = refl;

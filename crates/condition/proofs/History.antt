@@ -13,7 +13,9 @@ use Rattle.base.specs.Columns.{within}
 use Rattle.base.specs.Rows.{modify}
 use Rattle.base.specs.Ticks.{ticks}
 use Rattle.base.proofs.Cases.{and-left, and-right, neither}
+use Rattle.base.proofs.Refusals.{appliesAt}
 use Rattle.base.proofs.Rows.{modify-same, modify-other}
+use Rattle.token_reader.specs.Read.{mostTokenBytes}
 use Rattle.band.specs.declared.Side.{Side}
 use Rattle.band.specs.declared.Side.the-variants.{Read, Write}
 use Rattle.band.specs.declared.Row.{Row}
@@ -22,7 +24,8 @@ use Rattle.band.specs.Rows.{freshRow, enabledOn, lockedOn, lockUnder, settleRow
 use Rattle.band_columns.specs.Sets.{columnsFit, formedRow, lockedNamed, lockedValue, namesLocked}
 use Rattle.drive.specs.declared.Drive.{Drive}
 use Rattle.drive.specs.State.{freshDrive, conditionsOf, rowAt, valueAt, settleOf, fallOf, tickOf}
-use Rattle.drive.specs.Events.{Event, reading, elapse, reset, sensorSet, bandSet, geometry, transfer, formedFrom, answerOf, actOf, stepOf, runOf}
+use Rattle.drive.specs.Events.{Shape, ticking, resetting, setting, sensing, placing, looking, shapeOf, ifTicking, ifResetting, ifSetting}
+use Rattle.drive.specs.Events.{Event, formedFrom, refusalsBy, answerOf, actBy, actOf, stepOf, runOf}
 use Rattle.drive.proofs.Answers.{granted-free}
 use Rattle.drive.proofs.Keeping.{step-keeps}
 use Rattle.condition.specs.History.{
@@ -32,8 +35,6 @@ use Rattle.condition.specs.History.{
   lengthOf,
   tickMoments,
   moments,
-  ownSet,
-  resetWith,
   unlocks,
   locks,
   LockedByHistory,
@@ -78,11 +79,17 @@ module _ (side : Side) (band : ℕ) where
 
   -- ---- the end of an event
 
+  abbrev namesBy : ℕ → Shape → Bool
+  namesBy v y = ifSetting y (λ b c bytes. eqb b band && namesLocked side v c) false
+
+  abbrev resetsBy : Drive → Shape → Bool
+  resetsBy d y = ifResetting y (λ t. inSet (rowAt d band .«lock_on_reset») t && enabledOn side (rowAt d band)) false
+
   namesTo : ℕ → Event → Bool
-  namesTo v x = ownSet band (λ c bytes. namesLocked side v c) x
+  namesTo v x = namesBy v (shapeOf x)
 
   resets : Drive → Event → Bool
-  resets d x = resetWith (λ t. inSet (rowAt d band .«lock_on_reset») t && enabledOn side (rowAt d band)) x
+  resets d x = resetsBy d (shapeOf x)
 
   -- a column that a Set names 0 or 1, or does not name
   column : (g : Bool) (v : ℕ) (old : Bool) → within 1 g v ≡ true
@@ -92,12 +99,16 @@ module _ (side : Side) (band : ℕ) where
   column true (suc zero) old t = sym (or-true old)
   column true (suc (suc n)) old t = absurd (omega (arith, leb-true (suc (suc n)) 1 t))
 
+  -- an event of which nothing is refused
+  abbrev Free : Drive → Shape → Type 0
+  Free d y = (i : ℕ) → appliesAt (refusalsBy d y) i ≡ false
+
   -- a granted Set names a Locked as 0 or 1
-  granted-fits : (d : Drive) (c : BandColumns) (bytes : List ℕ) (b : ℕ) → granted d (bandSet b c bytes) ≡ true
+  granted-fits : (d : Drive) (c : BandColumns) (bytes : List ℕ) (b : ℕ) → Free d (setting b c bytes)
       → within 1 (lockedNamed side c) (lockedValue side c) ≡ true
   unfolding columnsFit
-  granted-fits d c bytes b t =
-      pick side (not-false (columnsFit c) (neither (not (columnsFit c)) (ltb 1024 (length bytes)) (granted-free d (bandSet b c bytes) (eqb-true (answerOf d (bandSet b c bytes)) 0 t) 1) .0))
+  granted-fits d c bytes b q =
+      pick side (not-false (columnsFit c) (neither (not (columnsFit c)) (ltb mostTokenBytes (length bytes)) (q 1) .0))
     where
       pick : (s : Side) → columnsFit c ≡ true → within 1 (lockedNamed s c) (lockedValue s c) ≡ true
       pick Read e = search (and-left, and-right)
@@ -109,9 +120,9 @@ module _ (side : Side) (band : ℕ) where
   formed-column Read c bytes x = refl
   formed-column Write c bytes x = refl
 
-  set-flag : (d : Drive) (b : ℕ) (c : BandColumns) (bytes : List ℕ) → band < length (d .rows) → granted d (bandSet b c bytes) ≡ true
-      → flag (actOf d (bandSet b c bytes)) ≡ ((not (namesTo 0 (bandSet b c bytes)) && flag d) || (namesTo 1 (bandSet b c bytes) || false))
-  unfolding flag namesTo actOf
+  set-flag : (d : Drive) (b : ℕ) (c : BandColumns) (bytes : List ℕ) → band < length (d .rows) → Free d (setting b c bytes)
+      → flag (actBy d (setting b c bytes)) ≡ ((not (namesBy 0 (setting b c bytes)) && flag d) || (namesBy 1 (setting b c bytes) || false))
+  unfolding flag
   set-flag d b c bytes h g = go (eqb b band) refl
     where
       go : (t : Bool) → eqb b band ≡ t
@@ -131,16 +142,20 @@ module _ (side : Side) (band : ℕ) where
       go true = lock-column s true x ∙ ap (λ (q : Bool). lockedOn s x || q) (and-true (enabledOn s x))
       go false = sym (or-false _)
 
+  shape-flag : (d : Drive) (y : Shape) → band < length (d .rows) → Free d y
+      → flag (actBy d y) ≡ ((not (namesBy 0 y) && flag (ticks tickOf (ifTicking y (λ n. n) 0) d)) || (namesBy 1 y || resetsBy d y))
+  unfolding ticks flag
+  shape-flag d (ticking n) h q = sym (or-false _)
+  shape-flag d (resetting t) h q = rw (reset-at t d band) (reset-column side t (rowAt d band))
+  shape-flag d (setting b c bytes) h q = set-flag d b c bytes h q
+  shape-flag d (sensing s x) h q = sym (or-false _)
+  shape-flag d (placing b start n) h q = sym (or-false _)
+  shape-flag d (looking w start n) h q = sym (or-false _)
+
   act-flag : (d : Drive) (x : Event) → band < length (d .rows) → granted d x ≡ true
       → flag (actOf d x) ≡ ((not (namesTo 0 x) && flag (ticks tickOf (lengthOf x) d)) || (namesTo 1 x || resets d x))
-  unfolding actOf ticks namesTo resets flag
-  act-flag d (reading s v) h g = sym (or-false _)
-  act-flag d (elapse n) h g = sym (or-false _)
-  act-flag d (reset t) h g = rw (reset-at t d band) (reset-column side t (rowAt d band))
-  act-flag d (sensorSet s c) h g = sym (or-false _)
-  act-flag d (bandSet b c bytes) h g = set-flag d b c bytes h g
-  act-flag d (geometry b start n) h g = sym (or-false _)
-  act-flag d (transfer w start n) h g = sym (or-false _)
+  unfolding actOf namesTo resets
+  act-flag d x h g = shape-flag d (shapeOf x) h (granted-free d x (eqb-true (answerOf d x) 0 g))
 
   -- the moment at which an event ends, from the drive that its ticks leave
   end-flag : (d : Drive) (x : Event) → band < length (d .rows) → Settled band d

@@ -57,7 +57,7 @@ module _ (band : ℕ) where
       go (setting b c bytes) t = sym (and-no (eqb b band) (passes c bytes) t)
       go (sensing s y) t = refl
       go (placing b start n) t = refl
-      go looking t = refl
+      go (looking w start n) t = refl
 
   silent : (N : ℕ → Bool) (d : Drive) (x : Event) → stays (only band) N x ≡ false → answerTo band d x ≡ []
   silent N d x t = rw (no-own-set N (λ c bytes. true) x t)

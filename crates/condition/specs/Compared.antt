@@ -34,7 +34,7 @@ staysBy bands sensors (resetting t) = true
 staysBy bands sensors (setting b c bytes) = bands b
 staysBy bands sensors (sensing s x) = sensors s
 staysBy bands sensors (placing b start n) = false
-staysBy bands sensors looking = false
+staysBy bands sensors (looking w start n) = false
 
 unfoldable pub stays : (bands sensors : ℕ → Bool) → Event → Bool
 stays bands sensors e = staysBy bands sensors (shapeOf e)

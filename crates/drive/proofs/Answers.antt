@@ -3,33 +3,37 @@ use Prim.Native.Nat.{ℕ, _<_, _≤_}
 use mathlib.Core.Path.{_≡_, refl, sym, ap, _∙_}
 use native.Mathlib.Omega.{arith}
 use mathlib.Core.Bool.{Bool, true, false, not}
-use mathlib.Core.List.{List, map}
+use mathlib.Core.List.{List, _∷_, map}
 use lib.Dec.{eqb, ltb}
 use borrow.Author.Tests.{lt-ltb, le-ltb}
 use Rattle.base.specs.Refusals.{firstOf}
 use Rattle.base.specs.Rows.{isRow}
+use Rattle.base.specs.Ticks.{mostTicks}
 use Rattle.base.proofs.Cases.{cond-true, cond-false}
 use Rattle.base.proofs.Refusals.{appliesAt, numbersBelow, risingFrom, none-applies, first-below, rising-lowest}
-use Rattle.sensor_set.specs.declared.SensorColumns.{SensorColumns}
-use Rattle.sensor.specs.Single.{readingAnswer}
-use Rattle.sensor_set.specs.Columns.{setAnswer}
+use Rattle.sensor_set.specs.declared.SensorEvent.{SensorEvent}
+use Rattle.sensor_set.specs.Columns.{sensorRefusals, sensorAnswer}
+use Rattle.sensor_set.proofs.Refused.{sensor-numbers, sensor-rises}
 use Rattle.band.specs.declared.Side.{Side}
 use Rattle.band_columns.specs.declared.BandColumns.{BandColumns}
-use Rattle.band.specs.Rows.{closedOn}
+use Rattle.band.specs.Rows.{lastResetType, closedOn}
 use Rattle.geometry.specs.Events.{placeAnswer, transferAnswer}
 use Rattle.drive.specs.declared.Drive.{Drive}
 use Rattle.drive.specs.State.{conditionsOf, rowAt, settleOf}
-use Rattle.drive.specs.Events.{Event, reading, elapse, reset, sensorSet, bandSet, geometry, transfer, rowRefusals, sideOf, refusals, answerOf, LowestGiven, actOf, stepOf, elapsedStops, stopsOf}
+use Rattle.drive.specs.Events.{Event, elapse, reset, bandSet, geometry, transfer, Shape, ticking, resetting, setting, sensing, placing, looking, shapeOf}
+use Rattle.drive.specs.Events.{rowRefusals, sideOf, noRow, refusalsBy, refusals, answerOf, LowestGiven, actOf, stepOf, elapsedStops, stopsOf}
 
 -- the numbers that events can get: 1 to 9
 event-numbers : (d : Drive) (e : Event) → numbersBelow 10 (refusals d e) ≡ true
-event-numbers d (reading s v) = refl
-event-numbers d (elapse n) = refl
-event-numbers d (reset t) = refl
-event-numbers d (sensorSet s c) = refl
-event-numbers d (bandSet b c bytes) = refl
-event-numbers d (geometry b start n) = refl
-event-numbers d (transfer w start n) = refl
+event-numbers d e = go (shapeOf e)
+  where
+    go : (x : Shape) → numbersBelow 10 (refusalsBy d x) ≡ true
+    go (ticking n) = refl
+    go (resetting t) = refl
+    go (setting b c bytes) = refl
+    go (sensing s x) = sensor-numbers x
+    go (placing b start n) = refl
+    go (looking w start n) = refl
 
 -- of an event that is answered 0 nothing applies
 pub granted-free : (d : Drive) (e : Event) → answerOf d e ≡ 0 → (i : ℕ) → appliesAt (refusals d e) i ≡ false
@@ -43,35 +47,29 @@ answer-below d e = first-below 10 (refusals d e) (omega arith) (event-numbers d 
 -- each event's numbers rise, so the first that applies is the lowest
 pub lowest-given : LowestGiven
 unfolding answerOf
-lowest-given d e = rising-lowest 1 (refusals d e) (omega arith) (rises d e)
+lowest-given d e = rising-lowest 1 (refusals d e) (omega arith) (rises (shapeOf e))
   where
-    rises : (d : Drive) (e : Event) → risingFrom 1 (refusals d e) ≡ true
-    rises d (reading s v) = refl
-    rises d (elapse n) = refl
-    rises d (reset t) = refl
-    rises d (sensorSet s c) = refl
-    rises d (bandSet b c bytes) = refl
-    rises d (geometry b start n) = refl
-    rises d (transfer w start n) = refl
+    rises : (x : Shape) → risingFrom 1 (refusalsBy d x) ≡ true
+    rises (ticking n) = refl
+    rises (resetting t) = refl
+    rises (setting b c bytes) = refl
+    rises (sensing s x) = sensor-rises x
+    rises (placing b start n) = refl
+    rises (looking w start n) = refl
 
 -- ---- a row that is not there, and one that is: what is left of the list
 
-module _ (d : Drive) (s : ℕ) (t : Bool) (p : t ≡ not (isRow (d .«sensor_count») s)) where
-  pub no-sensor-reading : (v : ℕ) → t ≡ true → 1 ≡ answerOf d (reading s v)
+-- an event on one sensor, whichever it is
+module _ (d : Drive) (e : Event) (s : ℕ) (x : SensorEvent) (h : shapeOf e ≡ sensing s x) (t : Bool) (p : t ≡ not (isRow (d .«sensor_count») s)) where
+  by-sensor : firstOf (noRow (d .«sensor_count») s ∷ sensorRefusals x) ≡ answerOf d e
   unfolding answerOf
-  no-sensor-reading v e = cond-true (not (isRow (d .«sensor_count») s)) 1 _ _ (sym p ∙ e) refl
+  by-sensor = ap (λ (y : Shape). firstOf (refusalsBy d y)) (sym h)
 
-  pub reading-answered : (v : ℕ) → t ≡ false → readingAnswer v ≡ answerOf d (reading s v)
-  unfolding answerOf
-  reading-answered v e = cond-false (not (isRow (d .«sensor_count») s)) 1 _ _ (sym p ∙ e) refl
+  pub no-sensor : t ≡ true → 1 ≡ answerOf d e
+  no-sensor g = cond-true (not (isRow (d .«sensor_count») s)) 1 _ _ (sym p ∙ g) refl ∙ by-sensor
 
-  pub no-sensor-set : (c : SensorColumns) → t ≡ true → 1 ≡ answerOf d (sensorSet s c)
-  unfolding answerOf
-  no-sensor-set c e = cond-true (not (isRow (d .«sensor_count») s)) 1 _ _ (sym p ∙ e) refl
-
-  pub set-answered : (c : SensorColumns) → t ≡ false → setAnswer c ≡ answerOf d (sensorSet s c)
-  unfolding answerOf
-  set-answered c e = cond-false (not (isRow (d .«sensor_count») s)) 1 _ _ (sym p ∙ e) refl
+  pub sensor-answered : t ≡ false → sensorAnswer x ≡ answerOf d e
+  sensor-answered g = cond-false (not (isRow (d .«sensor_count») s)) 1 _ _ (sym p ∙ g) refl ∙ by-sensor
 
 module _ (d : Drive) (b : ℕ) (c : BandColumns) (bytes : List ℕ) (t : Bool) (p : t ≡ not (isRow (d .«band_count») b)) where
   pub no-band : t ≡ true → 1 ≡ answerOf d (bandSet b c bytes)
@@ -84,21 +82,21 @@ module _ (d : Drive) (b : ℕ) (c : BandColumns) (bytes : List ℕ) (t : Bool) (
 
 -- ---- the other events
 
-pub elapse-answered : (d : Drive) (n : ℕ) → n ≤ 4294967295 → 0 ≡ answerOf d (elapse n)
+pub elapse-answered : (d : Drive) (n : ℕ) → n ≤ mostTicks → 0 ≡ answerOf d (elapse n)
 unfolding answerOf
-elapse-answered d n h = cond-false (ltb 4294967295 n) 2 _ _ (le-ltb 4294967295 n h) refl
+elapse-answered d n h = cond-false (ltb mostTicks n) 2 _ _ (le-ltb mostTicks n h) refl
 
-pub elapse-refused : (d : Drive) (n : ℕ) → 4294967295 < n → 2 ≡ answerOf d (elapse n)
+pub elapse-refused : (d : Drive) (n : ℕ) → mostTicks < n → 2 ≡ answerOf d (elapse n)
 unfolding answerOf
-elapse-refused d n h = cond-true (ltb 4294967295 n) 2 _ _ (lt-ltb 4294967295 n h) refl
+elapse-refused d n h = cond-true (ltb mostTicks n) 2 _ _ (lt-ltb mostTicks n h) refl
 
-pub reset-answered : (d : Drive) (t : ℕ) → t ≤ 2 → 0 ≡ answerOf d (reset t)
+pub reset-answered : (d : Drive) (t : ℕ) → t ≤ lastResetType → 0 ≡ answerOf d (reset t)
 unfolding answerOf
-reset-answered d t h = cond-false (ltb 2 t) 2 _ _ (le-ltb 2 t h) refl
+reset-answered d t h = cond-false (ltb lastResetType t) 2 _ _ (le-ltb lastResetType t h) refl
 
-pub reset-refused : (d : Drive) (t : ℕ) → 2 < t → 2 ≡ answerOf d (reset t)
+pub reset-refused : (d : Drive) (t : ℕ) → lastResetType < t → 2 ≡ answerOf d (reset t)
 unfolding answerOf
-reset-refused d t h = cond-true (ltb 2 t) 2 _ _ (lt-ltb 2 t h) refl
+reset-refused d t h = cond-true (ltb lastResetType t) 2 _ _ (lt-ltb lastResetType t h) refl
 
 pub geometry-answered : (d : Drive) (b start n : ℕ) → placeAnswer (d .capacity) (d .«band_count») (d .spans) b start n ≡ answerOf d (geometry b start n)
 unfolding answerOf placeAnswer

@@ -69,7 +69,7 @@ shape-header d (resetting t) =
 shape-header d (setting b c tokens) = others _ _ _ d (length-modify _ b (d .rows)) refl refl
 shape-header d (sensing s x) = others _ _ _ d refl refl (length-modify _ s (d .sensors))
 shape-header d (placing b start n) = others _ _ _ d refl (length-set (d .spans) b _) refl
-shape-header d looking = same d
+shape-header d (looking w start n) = same d
 
 act-header : (d : Drive) (e : Event) → SameHeader (actOf d e) d
 unfolding actOf
@@ -129,7 +129,7 @@ module _ (P : Sensor → Type 0) (k : Keeps P) where
   shape-each d (setting b c tokens) h i = h i
   shape-each d (sensing s x) h i = modify-keeps P (sensorAfter x) (k .event x) freshSensor (d .sensors) s i (h i)
   shape-each d (placing b start n) h i = h i
-  shape-each d looking h i = h i
+  shape-each d (looking w start n) h i = h i
 
   act-each : (d : Drive) (e : Event) → Each P d → Each P (actOf d e)
   unfolding actOf

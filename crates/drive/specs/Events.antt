@@ -11,10 +11,10 @@ use Rattle.base.specs.Refusals.{Refusal, when, firstOf, LowestOf}
 use Rattle.base.specs.Rows.{isRow, modify}
 use Rattle.answer.specs.Numbers.{numberOf}
 use Rattle.sensor_set.specs.declared.SensorColumns.{SensorColumns}
-use Rattle.sensor.specs.Single.{readingRefusals, powerCycleOf}
+use Rattle.sensor.specs.Single.{powerCycleOf}
 use Rattle.sensor_set.specs.declared.SensorEvent.{SensorEvent}
 use Rattle.sensor_set.specs.declared.SensorEvent.the-variants as S
-use Rattle.sensor_set.specs.Columns.{setRefusals, sensorAfter}
+use Rattle.sensor_set.specs.Columns.{sensorRefusals, sensorAfter}
 use Rattle.token_reader.specs.Read.{mostTokenBytes, readTokens, answerIn, expressionIn}
 use Rattle.band.specs.declared.Side.{Side}
 use Rattle.band.specs.declared.Side.the-variants.{Read, Write}
@@ -41,14 +41,14 @@ pub data Event : Type 0 where
   geometry : (band start length : ℕ) → Event
   transfer : (direction start count : ℕ) → Event
 
--- One shape of an event: what it does to time, to all bands by a reset, to a band's row, to a sensor, to a band's place, or to nothing.
+-- One shape of an event: what it does to time, to all bands by a reset, to a band's row, to a sensor, to a band's place; a transfer only looks.
 pub data Shape : Type 0 where
   ticking : (ticks : ℕ) → Shape
   resetting : (type : ℕ) → Shape
   setting : (band : ℕ) (columns : BandColumns) (tokens : List ℕ) → Shape
   sensing : (sensor : ℕ) (event : SensorEvent) → Shape
   placing : (band start length : ℕ) → Shape
-  looking : Shape
+  looking : (direction start count : ℕ) → Shape
 
 abbrev pub shapeOf : Event → Shape
 shapeOf (reading s v) = sensing s (S.Reading v)
@@ -57,7 +57,7 @@ shapeOf (reset t) = resetting t
 shapeOf (sensorSet s c) = sensing s (S.Set c)
 shapeOf (bandSet b c bytes) = setting b c bytes
 shapeOf (geometry b start n) = placing b start n
-shapeOf (transfer w start n) = looking
+shapeOf (transfer w start n) = looking w start n
 
 -- what is said of an elapse, of a reset and of a band Set, and of all other events
 abbrev pub ifTicking : {A : Type 0} → Shape → (ℕ → A) → A → A
@@ -66,7 +66,7 @@ ifTicking (resetting t) f a = a
 ifTicking (setting b c bytes) f a = a
 ifTicking (sensing s x) f a = a
 ifTicking (placing b start n) f a = a
-ifTicking looking f a = a
+ifTicking (looking w start n) f a = a
 
 abbrev pub ifResetting : {A : Type 0} → Shape → (ℕ → A) → A → A
 ifResetting (ticking n) f a = a
@@ -74,7 +74,7 @@ ifResetting (resetting t) f a = f t
 ifResetting (setting b c bytes) f a = a
 ifResetting (sensing s x) f a = a
 ifResetting (placing b start n) f a = a
-ifResetting looking f a = a
+ifResetting (looking w start n) f a = a
 
 abbrev pub ifSetting : {A : Type 0} → Shape → (ℕ → BandColumns → List ℕ → A) → A → A
 ifSetting (ticking n) f a = a
@@ -82,7 +82,7 @@ ifSetting (resetting t) f a = a
 ifSetting (setting b c bytes) f a = f b c bytes
 ifSetting (sensing s x) f a = a
 ifSetting (placing b start n) f a = a
-ifSetting looking f a = a
+ifSetting (looking w start n) f a = a
 
 -- ---- the refusals of each event, in the order in which they are given
 
@@ -119,16 +119,19 @@ sideOf direction = cond (eqb direction 0) Read Write
 abbrev pub noRow : ℕ → ℕ → Refusal
 noRow count i = when 1 (not (isRow count i))
 
--- each event's own list; 2 "out of range: a field exceeds its range" of the ticks, of a reset's type and of a direction
-abbrev pub refusals : Drive → Event → List Refusal
-refusals d (reading s v) = noRow (d .«sensor_count») s ∷ readingRefusals v
-refusals d (elapse n) = when 2 (ltb mostTicks n) ∷ []
-refusals d (reset t) = when 2 (ltb lastResetType t) ∷ []
-refusals d (sensorSet s c) = noRow (d .«sensor_count») s ∷ setRefusals c
-refusals d (bandSet b c bytes) = noRow (d .«band_count») b ∷ rowRefusals (conditionsOf d) c bytes (rowAt d b)
-refusals d (geometry b start n) = placeRefusals (d .capacity) (d .«band_count») (d .spans) b start n
-refusals d (transfer w start n) =
+-- each event's own list; 2 "out of range: a field exceeds its range" of the ticks, of a reset's type and of a direction. The events on one
+-- sensor, a reading and a Set, have theirs after 1 (`sensorRefusals`).
+abbrev pub refusalsBy : Drive → Shape → List Refusal
+refusalsBy d (ticking n) = when 2 (ltb mostTicks n) ∷ []
+refusalsBy d (resetting t) = when 2 (ltb lastResetType t) ∷ []
+refusalsBy d (setting b c bytes) = noRow (d .«band_count») b ∷ rowRefusals (conditionsOf d) c bytes (rowAt d b)
+refusalsBy d (sensing s x) = noRow (d .«sensor_count») s ∷ sensorRefusals x
+refusalsBy d (placing b start n) = placeRefusals (d .capacity) (d .«band_count») (d .spans) b start n
+refusalsBy d (looking w start n) =
     when 2 (ltb 1 w) ∷ transferRefusals (d .capacity) (d .«band_count») (d .spans) (map (closedOn (sideOf w)) (d .rows)) start n
+
+abbrev pub refusals : Drive → Event → List Refusal
+refusals d e = refusalsBy d (shapeOf e)
 
 -- "0 done: nothing below applies"
 unfoldable pub answerOf : Drive → Event → ℕ
@@ -151,7 +154,7 @@ actBy d (resetting t) = resetOf t d
 actBy d (setting b c bytes) = withRows (modify (formedFrom c bytes) b (d .rows)) d
 actBy d (sensing s x) = withSensors (modify (sensorAfter x) s (d .sensors)) d
 actBy d (placing b start n) = withSpans (placed (d .spans) b start n) d
-actBy d looking = d
+actBy d (looking w start n) = d
 
 unfoldable pub actOf : Drive → Event → Drive
 actOf d e = actBy d (shapeOf e)

@@ -19,9 +19,18 @@ use Rattle.drive.specs.declared.Drive.{Drive}
 use Rattle.drive.specs.declared.Fresh.{Fresh}
 
 -- "Capacity is 1 to 2^48 blocks, bands 1 to 16 (band 0 is the global one), sensors 0 to 16."
+abbrev pub mostBlocks : ℕ
+mostBlocks = 281474976710656
+
+abbrev pub mostBands : ℕ
+mostBands = 16
+
+abbrev pub mostSensors : ℕ
+mostSensors = 16
+
 unfoldable pub headerFits : ℕ → ℕ → ℕ → Bool
 headerFits capacity bands sensors =
-    leb 1 capacity && (leb capacity 281474976710656 && (leb 1 bands && (leb bands 16 && leb sensors 16)))
+    leb 1 capacity && (leb capacity mostBlocks && (leb 1 bands && (leb bands mostBands && leb sensors mostSensors)))
 
 -- "Fresh: all columns 0, expressions empty, LockOnReset 1, levels FALSE, phases SS0." "A drive is 16 rows, .. whatever the header counts."
 unfoldable pub freshDrive : ℕ → ℕ → ℕ → Drive

@@ -12,6 +12,7 @@ use Rattle.base.proofs.Cases.{cond-true, cond-false}
 use Rattle.numbers.specs.declared.Number.{Number}
 use Rattle.numbers.specs.declared.Number.the-variants.{Is, Bad}
 use Rattle.numbers.specs.Groups.{Found, found, foundIn, numberAt}
+use Rattle.token_reader.specs.Read.{mostTokenBytes}
 use Rattle.drive.specs.Events.{geometry, transfer}
 use Rattle.event_reader.specs.declared.FirstColumns.{FirstColumns}
 use Rattle.event_reader.specs.declared.FirstColumns.the-variants as F
@@ -56,18 +57,19 @@ pub ruleset fields = (read-bad, read-is, five-bad, five-is, tokens-bad, tokens-i
 
 -- ---- a column, an expression's bytes and their part of the script
 
-pub column-named : (s : List ℕ) (at mask bit : ℕ) (r : Number) → mask / bit % 2 ≡ 1 → foundIn r ≡ numberAt s at → foundIn r ≡ columnAt s at mask bit
-column-named s at mask bit r e q = cond-true (named bit mask) _ _ _ (eq-eqb (mask / bit % 2) 1 e) q
+pub column-named : (s : List ℕ) (at mask bit : ℕ) (r : Number) (t : Bool) → t ≡ named bit mask → t ≡ true → foundIn r ≡ numberAt s at
+    → foundIn r ≡ columnAt s at mask bit
+column-named s at mask bit r t p e q = cond-true (named bit mask) _ _ _ (sym p ∙ e) q
 
-pub column-free : (s : List ℕ) (at mask bit : ℕ) → (mask / bit % 2 ≡ 1 → ⊥) → found 0 at ≡ columnAt s at mask bit
-column-free s at mask bit n = cond-false (named bit mask) _ _ _ (ne-eqb (mask / bit % 2) 1 n) refl
+pub column-free : (s : List ℕ) (at mask bit : ℕ) (t : Bool) → t ≡ named bit mask → t ≡ false → found 0 at ≡ columnAt s at mask bit
+column-free s at mask bit t p e = cond-false (named bit mask) _ _ _ (sym p ∙ e) refl
 
-pub no-expression : (s : List ℕ) (at mask : ℕ) → (mask / 32 % 2 ≡ 1 → ⊥) → stretch 0 0 at ≡ expressionAt s at mask
-no-expression s at mask n = cond-false (named 32 mask) _ _ _ (ne-eqb (mask / 32 % 2) 1 n) refl
+pub no-expression : (s : List ℕ) (at mask : ℕ) (t : Bool) → t ≡ named 32 mask → t ≡ false → stretch 0 0 at ≡ expressionAt s at mask
+no-expression s at mask t p e = cond-false (named 32 mask) _ _ _ (sym p ∙ e) refl
 
-module _ (s : List ℕ) (at mask : ℕ) (r : Number) (h : mask / 32 % 2 ≡ 1) (e : foundIn r ≡ numberAt s at) where
+module _ (s : List ℕ) (at mask : ℕ) (r : Number) (t : Bool) (p : t ≡ named 32 mask) (h : t ≡ true) (e : foundIn r ≡ numberAt s at) where
   there : stretchAt s (foundIn r) ≡ expressionAt s at mask
-  there = cond-true (named 32 mask) _ _ _ (eq-eqb (mask / 32 % 2) 1 h) (ap (stretchAt s) e)
+  there = cond-true (named 32 mask) _ _ _ (sym p ∙ h) (ap (stretchAt s) e)
 
   pub expression-bad : r ≡ Bad → cut ≡ expressionAt s at mask
   expression-bad q = sym (ap (λ (x : Number). stretchAt s (foundIn x)) q) ∙ there
@@ -76,8 +78,8 @@ module _ (s : List ℕ) (at mask : ℕ) (r : Number) (h : mask / 32 % 2 ≡ 1) (
     at-size : stretchAt s (found size n) ≡ expressionAt s at mask
     at-size = sym (ap (λ (x : Number). stretchAt s (foundIn x)) q) ∙ there
 
-    pub expression-long : 1024 < size → cut ≡ expressionAt s at mask
-    expression-long k = cond-false (leb size 1024) _ _ _ (lt-leb size 1024 k) refl ∙ at-size
+    pub expression-long : mostTokenBytes < size → cut ≡ expressionAt s at mask
+    expression-long k = cond-false (leb size mostTokenBytes) _ _ _ (lt-leb size mostTokenBytes k) refl ∙ at-size
 
     -- the place after a number lies within the script
     pub expression-past : length s < n → cut ≡ expressionAt s at mask
@@ -85,13 +87,13 @@ module _ (s : List ℕ) (at mask : ℕ) (r : Number) (h : mask / 32 % 2 ≡ 1) (
         let b : NumberIn at (length s) (found size n) = subst (NumberIn at (length s)) (sym e ∙ ap foundIn q) (number-here s at) in
         absurd (omega (arith, l, b .1))
 
-    pub expression-cut : size ≤ 1024 → length s - n < size → cut ≡ expressionAt s at mask
+    pub expression-cut : size ≤ mostTokenBytes → length s - n < size → cut ≡ expressionAt s at mask
     expression-cut k m =
-        cond-true (leb size 1024) _ _ _ (le-leb size 1024 k) (cond-false (leb size (length s - n)) _ _ _ (lt-leb size (length s - n) m) refl) ∙ at-size
+        cond-true (leb size mostTokenBytes) _ _ _ (le-leb size mostTokenBytes k) (cond-false (leb size (length s - n)) _ _ _ (lt-leb size (length s - n) m) refl) ∙ at-size
 
-    pub expression-is : size ≤ 1024 → size ≤ length s - n → stretch n size (n + size) ≡ expressionAt s at mask
+    pub expression-is : size ≤ mostTokenBytes → size ≤ length s - n → stretch n size (n + size) ≡ expressionAt s at mask
     expression-is k m =
-        cond-true (leb size 1024) _ _ _ (le-leb size 1024 k) (cond-true (leb size (length s - n)) _ _ _ (le-leb size (length s - n) m) refl) ∙ at-size
+        cond-true (leb size mostTokenBytes) _ _ _ (le-leb size mostTokenBytes k) (cond-true (leb size (length s - n)) _ _ _ (le-leb size (length s - n) m) refl) ∙ at-size
 
 -- ---- three numbers, and what they and the place after them go on to
 

@@ -36,10 +36,9 @@ pub enum FirstColumns {
 
 // The column of a bit, where the mask names it; else 0, which takes no bytes.
 fn column_at(script: &[u8], at: usize, mask: u64, bit: u64) -> Number
-    requires { ⌜ 0 < bit ⌝ }
     ensures { λ r. ⌜ foundIn r ≡ columnAt (now (script .entry)) at mask bit ⌝ }
 {
-    if mask / bit % 2 == 1 {
+    if base::names(mask, bit) {
         return numbers::number_at(script, at);
     }
     Number::Is(0, at)
@@ -159,7 +158,7 @@ fn sensor_set_at(script: &[u8], at: usize) -> EventRead
 fn expression_at(script: &[u8], at: usize, mask: u64) -> BytesRead
     ensures { λ r. ⌜ bytesReadIn r ≡ expressionAt (now (script .entry)) at mask ⌝ }
 {
-    if mask / 32 % 2 == 1 {
+    if base::names(mask, 32) {
         let Number::Is(size, at1) = numbers::number_at(script, at) else {
             return BytesRead::Bad;
         };

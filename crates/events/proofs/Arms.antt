@@ -8,6 +8,7 @@ use lib.Dec.{eqb}
 use lib.ListN.{set}
 use borrow.Author.Tests.{eqb-true}
 use Rattle.base.specs.Rows.{isRow, modify, Takes}
+use Rattle.base.specs.Ticks.{mostTicks, stops}
 use Rattle.base.proofs.Cases.{cond-true, cond-false}
 use Rattle.base.proofs.Rows.{row-place, modify-set}
 use Rattle.answer.specs.declared.Answer.{Answer}
@@ -17,20 +18,22 @@ use Rattle.sensor.specs.declared.single.Sensor.{Sensor}
 use Rattle.sensor.specs.declared.single.SensorAnswer.{SensorAnswer}
 use Rattle.sensor_set.specs.declared.SensorColumns.{SensorColumns}
 use Rattle.sensor.specs.Single.{freshSensor, readingAnswer, readingOf, powerCycleOf, Answers}
-use Rattle.sensor_set.specs.Columns.{setAnswer, setOf}
+use Rattle.sensor_set.specs.declared.SensorEvent.{SensorEvent}
+use Rattle.sensor_set.specs.declared.SensorEvent.the-variants as S
+use Rattle.sensor_set.specs.Columns.{setAnswer, setOf, sensorAnswer, sensorAfter}
 use Rattle.band.specs.declared.Side.{Side}
 use Rattle.band.specs.declared.Row.{Row}
 use Rattle.band_columns.specs.declared.BandColumns.{BandColumns}
-use Rattle.band.specs.Rows.{freshRow, closedOn, resetRow}
+use Rattle.band.specs.Rows.{lastResetType, freshRow, closedOn, resetRow}
 use Rattle.geometry.specs.declared.Span.{Span}
 use Rattle.geometry.specs.declared.Placed.{Placed}
 use Rattle.geometry.specs.Events.{placed, placeAnswer, placeOf, transferAnswer, Places}
 use Rattle.drive.specs.declared.Drive.{Drive}
 use Rattle.drive.specs.declared.Kind.{Kind}
 use Rattle.drive.specs.declared.Reply.{Reply}
-use Rattle.drive.specs.State.{withRows, withSpans, withSensors, conditionsOf, settleOf}
-use Rattle.drive.specs.Events.{reading, elapse, reset, sensorSet, bandSet, geometry, transfer}
-use Rattle.drive.specs.Events.{answerOf, actOf, sideOf, formedFrom, Replies, eventOf}
+use Rattle.drive.specs.State.{withRows, withSpans, withSensors, conditionsOf, settleOf, tickOf, stopNext}
+use Rattle.drive.specs.Events.{Event, reading, elapse, reset, sensorSet, bandSet, geometry, transfer, Shape, sensing, shapeOf, ifTicking}
+use Rattle.drive.specs.Events.{answerOf, actBy, actOf, sideOf, formedFrom, Replies, eventOf}
 use Rattle.drive.proofs.Answers as A
 use Rattle.elapse.specs.declared.Elapsed.{Elapsed}
 use Rattle.elapse.specs.Jumps.{Elapses}
@@ -61,33 +64,35 @@ module _ (d : Drive) (s : ℕ) (one : Sensor) (r : SensorAnswer) (q : Reply) (t 
       ap (λ (x : List Sensor). withSensors x d)
       (modify-set f (d .sensors) s freshSensor (r .sensor) (h ∙ ap f (k .element)) (omega (arith, k .long, row-place (d .«sensor_count») s t p e)))
 
-  pub reading-replies : (v : ℕ) → Answers (readingAnswer v) (readingOf v one) r → Stores (r .answer) (withSensors (set (d .sensors) s (r .sensor)) d) d q → Replies d (reading s v) q
+  -- any event on the sensor
+  sensor-replies : (y : Event) (x : SensorEvent) → shapeOf y ≡ sensing s x → Answers (sensorAnswer x) (sensorAfter x one) r
+      → Stores (r .answer) (withSensors (set (d .sensors) s (r .sensor)) d) d q → Replies d y q
   unfolding actOf
-  reading-replies v a w =
-      by-answer d (reading s v) (numberOf (r .answer)) (withSensors (set (d .sensors) s (r .sensor)) d) q (w .answer)
-      (a .answer ∙ A.reading-answered d s t p v e)
-      (w .stops) refl (w .drive) (stored (readingOf v) (a .sensor))
+  sensor-replies y x h a w =
+      by-answer d y (numberOf (r .answer)) (withSensors (set (d .sensors) s (r .sensor)) d) q (w .answer)
+      (a .answer ∙ A.sensor-answered d y s x h t p e)
+      (w .stops) (ap (λ (z : Shape). ifTicking z (λ n. stops tickOf stopNext n d) 0) h) (w .drive)
+      (stored (sensorAfter x) (a .sensor) ∙ ap (actBy d) (sym h))
+
+  pub reading-replies : (v : ℕ) → Answers (readingAnswer v) (readingOf v one) r → Stores (r .answer) (withSensors (set (d .sensors) s (r .sensor)) d) d q → Replies d (reading s v) q
+  reading-replies v a w = sensor-replies (reading s v) (S.Reading v) refl a w
 
   pub set-replies : (c : SensorColumns) → Answers (setAnswer c) (setOf c one) r → Stores (r .answer) (withSensors (set (d .sensors) s (r .sensor)) d) d q → Replies d (sensorSet s c) q
-  unfolding actOf
-  set-replies c a w =
-      by-answer d (sensorSet s c) (numberOf (r .answer)) (withSensors (set (d .sensors) s (r .sensor)) d) q (w .answer)
-      (a .answer ∙ A.set-answered d s t p c e)
-      (w .stops) refl (w .drive) (stored (setOf c) (a .sensor))
+  set-replies c a w = sensor-replies (sensorSet s c) (S.Set c) refl a w
 
 -- ---- elapse and reset
 
-pub elapse-replies : (d : Drive) (n : ℕ) (x : Elapsed) (s : Drive) → n ≤ 4294967295 → Elapses n d x → s ≡ settleOf (x .drive)
+pub elapse-replies : (d : Drive) (n : ℕ) (x : Elapsed) (s : Drive) → n ≤ mostTicks → Elapses n d x → s ≡ settleOf (x .drive)
     → Replies d (elapse n) (record { answer = Done; stops = x .stops; drive = s })
 unfolding actOf
 elapse-replies d n x s h r e =
     grants d (elapse n) (record { answer = Done; stops = x .stops; drive = s }) refl (sym (A.elapse-answered d n h)) (r .stops)
     (e ∙ ap settleOf (r .drive))
 
-pub elapse-refused : (d : Drive) (n : ℕ) (q : Reply) → 4294967295 < n → q ≡ refused OutOfRange d → Replies d (elapse n) q
+pub elapse-refused : (d : Drive) (n : ℕ) (q : Reply) → mostTicks < n → q ≡ refused OutOfRange d → Replies d (elapse n) q
 elapse-refused d n q h w = refuses d (elapse n) OutOfRange q w (A.elapse-refused d n h) refl
 
-pub reset-replies : (d : Drive) (t : ℕ) (rows : List Row) (sensors : List Sensor) (m x : Drive) (q : Reply) → t ≤ 2
+pub reset-replies : (d : Drive) (t : ℕ) (rows : List Row) (sensors : List Sensor) (m x : Drive) (q : Reply) → t ≤ lastResetType
     → rows ≡ map (resetRow t) (d .rows) → sensors ≡ cond (eqb t 0) (map powerCycleOf (d .sensors)) (d .sensors)
     → m ≡ withRows rows d → x ≡ withSensors sensors m → q ≡ granting x → Replies d (reset t) q
 unfolding actOf
@@ -95,7 +100,7 @@ reset-replies d t rows sensors m x q h er es em ex w =
     done d (reset t) x q w (sym (A.reset-answered d t h)) refl
     (ex ∙ ap₂ (λ (l : List Sensor) (y : Drive). withSensors l y) es (em ∙ ap (λ (l : List Row). withRows l d) er))
 
-pub reset-refused : (d : Drive) (t : ℕ) (q : Reply) → 2 < t → q ≡ refused OutOfRange d → Replies d (reset t) q
+pub reset-refused : (d : Drive) (t : ℕ) (q : Reply) → lastResetType < t → q ≡ refused OutOfRange d → Replies d (reset t) q
 reset-refused d t q h w = refuses d (reset t) OutOfRange q w (A.reset-refused d t h) refl
 
 -- ---- geometry and transfer
@@ -159,11 +164,11 @@ module _ (d : Drive) (b : ℕ) (c : BandColumns) (bytes : List ℕ) (row : Row) 
 -- a row that is not there
 pub no-sensor-reading : (d : Drive) (s v : ℕ) (t : Bool) (q : Reply) → t ≡ not (isRow (d .«sensor_count») s) → t ≡ true → q ≡ refused NoRow d
     → Replies d (reading s v) q
-no-sensor-reading d s v t q p e w = refuses d (reading s v) NoRow q w (A.no-sensor-reading d s t p v e) refl
+no-sensor-reading d s v t q p e w = refuses d (reading s v) NoRow q w (A.no-sensor d (reading s v) s (S.Reading v) refl t p e) refl
 
 pub no-sensor-set : (d : Drive) (s : ℕ) (c : SensorColumns) (t : Bool) (q : Reply) → t ≡ not (isRow (d .«sensor_count») s) → t ≡ true
     → q ≡ refused NoRow d → Replies d (sensorSet s c) q
-no-sensor-set d s c t q p e w = refuses d (sensorSet s c) NoRow q w (A.no-sensor-set d s t p c e) refl
+no-sensor-set d s c t q p e w = refuses d (sensorSet s c) NoRow q w (A.no-sensor d (sensorSet s c) s (S.Set c) refl t p e) refl
 
 pub no-band : (d : Drive) (b : ℕ) (c : BandColumns) (bytes : List ℕ) (t : Bool) (q : Reply) → t ≡ not (isRow (d .«band_count») b) → t ≡ true
     → q ≡ refused NoRow d → Replies d (bandSet b c bytes) q

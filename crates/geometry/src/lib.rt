@@ -34,12 +34,6 @@ fn least(a: u64, b: u64) -> u64
     if a < b { a } else { b }
 }
 
-fn or(a: bool, b: bool) -> bool
-    ensures { λ r. ⌜ r ≡ (a || b) ⌝ }
-{
-    a || b
-}
-
 impl Span {
     // No blocks.
     pub fn none() -> Span
@@ -165,7 +159,7 @@ fn some_closed(closed: [bool; 16]) -> bool
 {
     let mut some = false;
     for i in 0..16 {
-        some = or(some, closed[i]);
+        some = base::or(some, closed[i]);
     }
     some
 }
@@ -187,7 +181,7 @@ fn touches(spans: [Span; 16], bands: usize, closed: [bool; 16], start: u64, coun
             length: count,
         },
     );
-    if or(near, closed[0]) {
+    if base::or(near, closed[0]) {
         return sweep(spans, bands, closed, start, count);
     }
     false

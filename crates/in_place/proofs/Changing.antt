@@ -9,8 +9,10 @@ use borrow.Author.Needs.{scaled-fits}
 use borrow.Author.Tests.{eqb-true, ltb-true, ltb-false}
 use mir.Val.{Fits}
 use mir.Syntax.{w64}
-use Rattle.base.specs.Rows.{isRow, modify}
+use Rattle.base.specs.Rows.{isRow}
+use Rattle.base.specs.Ticks.{mostTicks, stops}
 use Rattle.base.proofs.Rows.{row-is}
+use Rattle.band.specs.Rows.{lastResetType}
 use Rattle.sensor_set.specs.declared.SensorEvent.{SensorEvent}
 use Rattle.sensor_set.specs.declared.SensorEvent.the-variants as S
 use Rattle.sensor_set.specs.Columns.{sensorAnswer, sensorAfter}
@@ -18,12 +20,12 @@ use Rattle.sensor_set.proofs.Refused.{event-refused}
 use Rattle.drive.specs.declared.Drive.{Drive}
 use Rattle.drive.specs.declared.Kind.{Kind}
 use Rattle.drive.specs.declared.Kind.the-variants as K
-use Rattle.drive.specs.Events.{Event, reading, elapse, reset, sensorSet, bandSet, geometry, transfer, eventOf, elapsedStops, answerOf, actOf}
-use Rattle.drive.specs.State.{withSensors}
+use Rattle.drive.specs.Events.{Event, reading, elapse, reset, sensorSet, bandSet, geometry, transfer, Shape, sensing, shapeOf, ifTicking, eventOf, actBy, actOf}
+use Rattle.drive.specs.State.{tickOf, stopNext}
 use Rattle.drive.proofs.Answers as A
 use Rattle.in_place.specs.declared.Change.{Change}
 use Rattle.in_place.specs.declared.Change.the-variants as C
-use Rattle.in_place.specs.Parts.{noReset, changeOf}
+use Rattle.in_place.specs.Parts.{noReset, sensorChange, changeOf}
 use Rattle.in_place.specs.Parts.{SettledSixteen}
 use Rattle.in_place.proofs.Storing.{OnSensor, OnNothing, on-refused, on-reset}
 
@@ -36,30 +38,32 @@ place count i e = row-is count i e .1
 abbrev pub Says : Drive → List ℕ → Event → Change → Type 0
 Says d bytes e (C.OneSensor j event) = OnSensor d e j (sensorAnswer event) (sensorAfter event)
 Says d bytes e (C.OneRow j c) = (isRow (d .«band_count») j ≡ true) × (e ≡ bandSet j c bytes)
-Says d bytes e (C.Elapse n) = (n ≤ 4294967295) × (e ≡ elapse n)
+Says d bytes e (C.Elapse n) = (n ≤ mostTicks) × (e ≡ elapse n)
 Says d bytes e C.PowerCycle = e ≡ reset 0
 Says d bytes e (C.Spans b start n) = e ≡ geometry b start n
 Says d bytes e (C.Transfer w start n) = e ≡ transfer w start n
 Says d bytes e (C.Nothing n t) = OnNothing d e n t
 
 module _ (d : Drive) (k : SettledSixteen d) (bytes : List ℕ) where
-  -- an event on the sensor s: the drive's answer is the sensor's, and so is what it stores
-  on-event : (e : Event) (s : ℕ) (x : SensorEvent) → isRow (d .«sensor_count») s ≡ true → sensorAnswer x ≡ answerOf d e → elapsedStops d e ≡ 0
-      → withSensors (modify (sensorAfter x) s (d .sensors)) d ≡ actOf d e → OnSensor d e s (sensorAnswer x) (sensorAfter x)
-  on-event e s x r a z c = record { there = place (d .«sensor_count») s r; answer = a; stops = z; act = c; stays = λ one q. event-refused x one q }
+  -- an event on the sensor s: the drive's answer is the sensor's, and so is what it stores; or the sensor is not there
+  on-sensor : (e : Event) (s : ℕ) (x : SensorEvent) → shapeOf e ≡ sensing s x → Says d bytes e (sensorChange (d .«sensor_count») s x)
+  unfolding actOf
+  on-sensor e s x h = go (isRow (d .«sensor_count») s) refl
+    where
+      go : (b : Bool) → isRow (d .«sensor_count») s ≡ b → Says d bytes e (cond b (C.OneSensor s x) (C.Nothing 1 noReset))
+      go true r = record {
+        there = place (d .«sensor_count») s r;
+        answer = A.sensor-answered d e s x h false (sym (ap not r)) refl;
+        stops = ap (λ (y : Shape). ifTicking y (λ n. stops tickOf stopNext n d) 0) h;
+        act = ap (actBy d) (sym h);
+        stays = λ one q. event-refused x one q;
+      }
+      go false r = on-refused d e 1 k (A.no-sensor d e s x h true (sym (ap not r)) refl) refl
 
   says : (kind : Kind) → Says d bytes (eventOf kind bytes) (changeOf (d .«sensor_count») (d .«band_count») kind)
   unfolding changeOf actOf
-  says (K.Reading s v) = go (isRow (d .«sensor_count») s) refl
-    where
-      go : (b : Bool) → isRow (d .«sensor_count») s ≡ b → Says d bytes (reading s v) (cond b (C.OneSensor s (S.Reading v)) (C.Nothing 1 noReset))
-      go true e = on-event (reading s v) s (S.Reading v) e (A.reading-answered d s false (sym (ap not e)) v refl) refl refl
-      go false e = on-refused d (reading s v) 1 k (A.no-sensor-reading d s true (sym (ap not e)) v refl) refl
-  says (K.SensorSet s c) = go (isRow (d .«sensor_count») s) refl
-    where
-      go : (b : Bool) → isRow (d .«sensor_count») s ≡ b → Says d bytes (sensorSet s c) (cond b (C.OneSensor s (S.Set c)) (C.Nothing 1 noReset))
-      go true e = on-event (sensorSet s c) s (S.Set c) e (A.set-answered d s false (sym (ap not e)) c refl) refl refl
-      go false e = on-refused d (sensorSet s c) 1 k (A.no-sensor-set d s true (sym (ap not e)) c refl) refl
+  says (K.Reading s v) = on-sensor (reading s v) s (S.Reading v) refl
+  says (K.SensorSet s c) = on-sensor (sensorSet s c) s (S.Set c) refl
   says (K.BandSet b c) = go (isRow (d .«band_count») b) refl
     where
       go : (x : Bool) → isRow (d .«band_count») b ≡ x → Says d bytes (bandSet b c bytes) (cond x (C.OneRow b c) (C.Nothing 1 noReset))
@@ -67,14 +71,14 @@ module _ (d : Drive) (k : SettledSixteen d) (bytes : List ℕ) where
       go false e = on-refused d (bandSet b c bytes) 1 k (A.no-band d b c bytes true (sym (ap not e)) refl) refl
   says (K.Reset t) = go (eqb t 0) refl
     where
-      go : (b : Bool) → eqb t 0 ≡ b → Says d bytes (reset t) (cond b C.PowerCycle (C.Nothing (cond (ltb 2 t) 2 0) t))
+      go : (b : Bool) → eqb t 0 ≡ b → Says d bytes (reset t) (cond b C.PowerCycle (C.Nothing (cond (ltb lastResetType t) 2 0) t))
       go true e = ap reset (eqb-true t 0 e)
       go false e = on-reset d k t e
-  says (K.Elapse n) = go (ltb 4294967295 n) refl
+  says (K.Elapse n) = go (ltb mostTicks n) refl
     where
-      go : (b : Bool) → ltb 4294967295 n ≡ b → Says d bytes (elapse n) (cond b (C.Nothing 2 noReset) (C.Elapse n))
-      go true e = on-refused d (elapse n) 2 k (A.elapse-refused d n (ltb-true 4294967295 n e)) refl
-      go false e = (ltb-false 4294967295 n e, refl)
+      go : (b : Bool) → ltb mostTicks n ≡ b → Says d bytes (elapse n) (cond b (C.Nothing 2 noReset) (C.Elapse n))
+      go true e = on-refused d (elapse n) 2 k (A.elapse-refused d n (ltb-true mostTicks n e)) refl
+      go false e = (ltb-false mostTicks n e, refl)
   says (K.Geometry b start n) = refl
   says (K.Transfer w start n) = refl
 
@@ -93,18 +97,18 @@ Placed (C.Spans b start n) = 0 < 16
 Placed (C.Transfer w start n) = 0 < 16
 Placed (C.Nothing n t) = 0 < 16
 
+sensor-placed : (sensors s : ℕ) (x : SensorEvent) → Placed (sensorChange sensors s x)
+unfolding Placed
+sensor-placed sensors s x = go (isRow sensors s) refl
+  where
+    go : (b : Bool) → isRow sensors s ≡ b → Placed (cond b (C.OneSensor s x) (C.Nothing 1 noReset))
+    go true e = place sensors s e
+    go false e = omega arith
+
 placed : (sensors bands : ℕ) (kind : Kind) → Placed (changeOf sensors bands kind)
 unfolding changeOf Placed
-placed sensors bands (K.Reading s v) = go (isRow sensors s) refl
-  where
-    go : (b : Bool) → isRow sensors s ≡ b → Placed (cond b (C.OneSensor s (S.Reading v)) (C.Nothing 1 noReset))
-    go true e = place sensors s e
-    go false e = omega arith
-placed sensors bands (K.SensorSet s c) = go (isRow sensors s) refl
-  where
-    go : (b : Bool) → isRow sensors s ≡ b → Placed (cond b (C.OneSensor s (S.Set c)) (C.Nothing 1 noReset))
-    go true e = place sensors s e
-    go false e = omega arith
+placed sensors bands (K.Reading s v) = sensor-placed sensors s (S.Reading v)
+placed sensors bands (K.SensorSet s c) = sensor-placed sensors s (S.Set c)
 placed sensors bands (K.BandSet b c) = go (isRow bands b) refl
   where
     go : (x : Bool) → isRow bands b ≡ x → Placed (cond x (C.OneRow b c) (C.Nothing 1 noReset))
@@ -112,10 +116,10 @@ placed sensors bands (K.BandSet b c) = go (isRow bands b) refl
     go false e = omega arith
 placed sensors bands (K.Reset t) = go (eqb t 0)
   where
-    go : (b : Bool) → Placed (cond b C.PowerCycle (C.Nothing (cond (ltb 2 t) 2 0) t))
+    go : (b : Bool) → Placed (cond b C.PowerCycle (C.Nothing (cond (ltb lastResetType t) 2 0) t))
     go true = omega arith
     go false = omega arith
-placed sensors bands (K.Elapse n) = go (ltb 4294967295 n)
+placed sensors bands (K.Elapse n) = go (ltb mostTicks n)
   where
     go : (b : Bool) → Placed (cond b (C.Nothing 2 noReset) (C.Elapse n))
     go true = omega arith

@@ -10,6 +10,7 @@ use lib.ListN.{length}
 use borrow.Author.Tests.{lt-ltb, le-ltb, eq-eqb, ne-eqb}
 use Rattle.base.specs.Lists.{any, count}
 use Rattle.base.specs.Rows.{isRow}
+use Rattle.base.specs.Ticks.{mostTicks}
 use Rattle.base.proofs.Cases.{cond-true, cond-false}
 use Rattle.base.proofs.Lists.{few-counted}
 use Rattle.base.proofs.Jumps.{quiet-ticks, quiet-stops}
@@ -28,7 +29,7 @@ use Rattle.sensors.proofs.Quiet.{AllQuiet, quietTicks-le, quietTicks-quiet, sen
 use Rattle.band.specs.declared.Row.{Row}
 use Rattle.band_columns.specs.declared.BandColumns.{BandColumns}
 use Rattle.band.specs.declared.Side.{Side}
-use Rattle.band.specs.Rows.{closedOn, settleRow}
+use Rattle.band.specs.Rows.{lastResetType, closedOn, settleRow}
 use Rattle.band.specs.Parts.{isLockable}
 use Rattle.geometry.specs.declared.Span.{Span}
 use Rattle.geometry.specs.Events.{transferAnswer}
@@ -140,16 +141,16 @@ module _ (count i : ℕ) (t : Bool) (p : t ≡ not (isRow count i)) where
   pub one-row : (c : BandColumns) → t ≡ false → C.OneRow i c ≡ rowChange count i c
   one-row c e = cond-true (isRow count i) _ _ _ (row-there count i t p e) refl
 
-pub long-elapse : (n : ℕ) → 4294967295 < n → C.Nothing 2 noReset ≡ elapseChange n
-long-elapse n h = cond-true (ltb 4294967295 n) _ _ _ (lt-ltb 4294967295 n h) refl
+pub long-elapse : (n : ℕ) → mostTicks < n → C.Nothing 2 noReset ≡ elapseChange n
+long-elapse n h = cond-true (ltb mostTicks n) _ _ _ (lt-ltb mostTicks n h) refl
 
-pub short-elapse : (n : ℕ) → n ≤ 4294967295 → C.Elapse n ≡ elapseChange n
-short-elapse n h = cond-false (ltb 4294967295 n) _ _ _ (le-ltb 4294967295 n h) refl
+pub short-elapse : (n : ℕ) → n ≤ mostTicks → C.Elapse n ≡ elapseChange n
+short-elapse n h = cond-false (ltb mostTicks n) _ _ _ (le-ltb mostTicks n h) refl
 
 pub power-cycle : (t : ℕ) → t ≡ 0 → C.PowerCycle ≡ resetChange t
 power-cycle t e = cond-true (eqb t 0) _ _ _ (eq-eqb t 0 e) refl
 
-pub other-reset : (t n : ℕ) → t ≢ 0 → n ≡ cond (ltb 2 t) 2 0 → C.Nothing n t ≡ resetChange t
+pub other-reset : (t n : ℕ) → t ≢ 0 → n ≡ cond (ltb lastResetType t) 2 0 → C.Nothing n t ≡ resetChange t
 other-reset t n e q = cond-false (eqb t 0) _ _ _ (ne-eqb t 0 e) (ap (λ (m : ℕ). C.Nothing m t) q)
 
 module _ (sensors bands : ℕ) (kind : Kind) where

@@ -9,7 +9,7 @@ use lib.ListN.{length, getD, set}
 use borrow.Author.Tests.{le-ltb, ltb-false, ltb-true, eqb-true, ne-eqb}
 use Rattle.base.specs.Lists.{oneIf, any}
 use Rattle.base.specs.Rows.{isRow, modify}
-use Rattle.base.specs.Ticks.{ticks}
+use Rattle.base.specs.Ticks.{mostTicks, ticks}
 use Rattle.base.specs.Ticks.{stops as stopsIn}
 use Rattle.base.proofs.Cases.{cond-true, cond-false, neither}
 use Rattle.base.proofs.Lists.{set-same}
@@ -25,7 +25,7 @@ use Rattle.sensors.specs.Parts.{quietTicks}
 use Rattle.sensors.proofs.Quiet.{AllQuiet, quietTicks-le, quietTicks-quiet, sensors-jump}
 use Rattle.band.specs.declared.Row.{Row}
 use Rattle.band_columns.specs.declared.BandColumns.{BandColumns}
-use Rattle.band.specs.Rows.{freshRow, closedOn, settleRow, inSet, resetRow}
+use Rattle.band.specs.Rows.{lastResetType, freshRow, closedOn, settleRow, inSet, resetRow}
 use Rattle.band.specs.Parts.{isLockable}
 use Rattle.band.proofs.Settling.{no-type}
 use Rattle.bands.proofs.Steady.{settle-steady, reset-steady}
@@ -68,7 +68,7 @@ unfoldable pub finishOf : ℕ → Drive → Drive
 finishOf t y = settleOf (withRows (map (resetRow t) (y .rows)) y)
 
 -- a type above 2 is in no set
-no-set : (t : ℕ) (rows : List Row) → 2 < t → map (resetRow t) rows ≡ rows
+no-set : (t : ℕ) (rows : List Row) → lastResetType < t → map (resetRow t) rows ≡ rows
 unfolding resetRow
 no-set t [] h = refl
 no-set t (row ∷ rows) h = λ i. one i ∷ no-set t rows h i
@@ -76,7 +76,7 @@ no-set t (row ∷ rows) h = λ i. one i ∷ no-set t rows h i
     one : resetRow t row ≡ row
     one = sym (cond-false (inSet (row .«lock_on_reset») t) _ _ _ (sym (no-type (row .«lock_on_reset») t (λ e. omega (arith, h, e)) (λ e. omega (arith, h, e)) (λ e. omega (arith, h, e)))) refl)
 
-finish-none : (t : ℕ) (y : Drive) → 2 < t → finishOf t y ≡ settleOf y
+finish-none : (t : ℕ) (y : Drive) → lastResetType < t → finishOf t y ≡ settleOf y
 unfolding finishOf
 finish-none t y h = ap (λ (rows : List Row). settleOf (withRows rows y)) (no-set t (y .rows) h)
 
@@ -96,7 +96,7 @@ pub record EventStored (d : Drive) (e : Event) (a z : ℕ) (y : Drive) (mayBeLoc
   pub flag : mayBeLockable ≡ false → any isLockable (y .rows) ≡ false
 
 -- an event whose drive is settled already
-settled-stored : (d : Drive) (e : Event) (a z : ℕ) (y : Drive) (o due : Bool) (t : ℕ) → SettledSixteen d → 2 < t → EventRan d e a z y → (o ≡ false → any isLockable (y .rows) ≡ false) → EventStored d e a z y o due t
+settled-stored : (d : Drive) (e : Event) (a z : ℕ) (y : Drive) (o due : Bool) (t : ℕ) → SettledSixteen d → lastResetType < t → EventRan d e a z y → (o ≡ false → any isLockable (y .rows) ≡ false) → EventStored d e a z y o due t
 settled-stored d e a z y o due t k h r f =
     let w : finishOf t y ≡ y = finish-none t y h ∙ ap settleOf (r .drive) ∙ step-sixteen d e k .settled ∙ sym (r .drive) in
     record { answer = r .answer; stops = r .stops; whole = w ∙ r .drive; calm = λ _. w; flag = f }
@@ -167,7 +167,7 @@ module _ (d : Drive) (k : SettledSixteen d) (e : Event) (j n : ℕ) (f : Sensor 
   held : Drive
   held = withSensors (set (d .sensors) j (m .sensor)) d
 
-  pub sensor-stored : (o : Bool) (w : ℕ) → 2 < w → (o ≡ false → any isLockable (d .rows) ≡ false) → EventStored d e (m .number) 0 (withSensors (set (d .sensors) j (m .sensor)) d) o (m .turned) w
+  pub sensor-stored : (o : Bool) (w : ℕ) → lastResetType < w → (o ≡ false → any isLockable (d .rows) ≡ false) → EventStored d e (m .number) 0 (withSensors (set (d .sensors) j (m .sensor)) d) o (m .turned) w
   unfolding held
   sensor-stored o w g fl = record {
     answer = h .number-is ∙ p .answer;
@@ -210,7 +210,7 @@ on-refused d e n k p z =
 -- ---- elapse
 
 -- an elapse in range, from the drive after its ticks, which is settled
-elapsed : (d : Drive) (n z : ℕ) (x : Drive) → settleOf d ≡ d → n ≤ 4294967295 → z ≡ stopsIn tickOf stopNext n d → x ≡ ticks tickOf n d → EventRan d (elapse n) 0 z x
+elapsed : (d : Drive) (n z : ℕ) (x : Drive) → settleOf d ≡ d → n ≤ mostTicks → z ≡ stopsIn tickOf stopNext n d → x ≡ ticks tickOf n d → EventRan d (elapse n) 0 z x
 unfolding answerOf stepOf stopsOf actOf
 elapsed d n z x s h ez ex = record {
   answer = zero-answer;
@@ -219,13 +219,13 @@ elapsed d n z x s h ez ex = record {
 }
   where
     zero-answer : 0 ≡ answerOf d (elapse n)
-    zero-answer = cond-false (ltb 4294967295 n) _ _ _ (le-ltb 4294967295 n h) refl
+    zero-answer = cond-false (ltb mostTicks n) _ _ _ (le-ltb mostTicks n h) refl
 
     done : eqb (answerOf d (elapse n)) 0 ≡ true
     done = ap (λ (m : ℕ). eqb m 0) (sym zero-answer)
 
 -- from stop to stop, with the bands settled at each
-pub stops-stored : (d : Drive) (k : SettledSixteen d) (n z : ℕ) (r : Elapsed) (o t : Bool) (w : ℕ) → 2 < w → n ≤ 4294967295 → t ≡ byStops o n (d .sensors) → t ≡ true → Elapses n d r → z ≡ r .stops
+pub stops-stored : (d : Drive) (k : SettledSixteen d) (n z : ℕ) (r : Elapsed) (o t : Bool) (w : ℕ) → lastResetType < w → n ≤ mostTicks → t ≡ byStops o n (d .sensors) → t ≡ true → Elapses n d r → z ≡ r .stops
     → EventStored d (elapse n) 0 z (r .drive) o true w
 stops-stored d k n z r o t w g b p e h ez =
     settled-stored d (elapse n) 0 z (r .drive) o true w k g (elapsed d n z (r .drive) (k .settled) b (ez ∙ h .stops) (h .drive))
@@ -250,7 +250,7 @@ module _ (d : Drive) (o : any isLockable (d .rows) ≡ false) where
       (ap (λ (x : Drive). stopsIn tickOf stopNext n x) (steady-tick l) ∙ steady-stops n (map sensorTick l))
 
 -- the sensors alone: no row is lockable, or no timer ends
-pub pass-stored : (d : Drive) (k : SettledSixteen d) (n : ℕ) (r : SensorsAfter) (o t due : Bool) (w : ℕ) → 2 < w → (o ≡ false → any isLockable (d .rows) ≡ false) → n ≤ 4294967295 → t ≡ byStops o n (d .sensors) → t ≡ false
+pub pass-stored : (d : Drive) (k : SettledSixteen d) (n : ℕ) (r : SensorsAfter) (o t due : Bool) (w : ℕ) → lastResetType < w → (o ≡ false → any isLockable (d .rows) ≡ false) → n ≤ mostTicks → t ≡ byStops o n (d .sensors) → t ≡ false
     → LeavesSensors n (d .sensors) r → EventStored d (elapse n) 0 (r .stops) (withSensors (r .sensors) d) o due w
 unfolding jumpOf
 pass-stored d k n r o t due w g fl b p e h = settled-stored d (elapse n) 0 (r .stops) (withSensors (r .sensors) d) o due w k g (go o refl) fl
@@ -278,14 +278,14 @@ pass-stored d k n r o t due w g fl b p e h = settled-stored d (elapse n) 0 (r .s
 
 -- ---- reset
 
-reset-stored : (d : Drive) (k : SettledSixteen d) (t : ℕ) (l : List Sensor) (a : ℕ) (o : Bool) → (o ≡ false → any isLockable (d .rows) ≡ false) → a ≡ cond (ltb 2 t) 2 0
+reset-stored : (d : Drive) (k : SettledSixteen d) (t : ℕ) (l : List Sensor) (a : ℕ) (o : Bool) → (o ≡ false → any isLockable (d .rows) ≡ false) → a ≡ cond (ltb lastResetType t) 2 0
     → l ≡ cond (eqb t 0) (map powerCycleOf (d .sensors)) (d .sensors) → EventStored d (reset t) a 0 (withSensors l d) o true t
 unfolding finishOf actOf answerOf
-reset-stored d k t l a o fl ea el = go (ltb 2 t) refl
+reset-stored d k t l a o fl ea el = go (ltb lastResetType t) refl
   where
-    go : (b : Bool) → ltb 2 t ≡ b → EventStored d (reset t) a 0 (withSensors l d) o true t
+    go : (b : Bool) → ltb lastResetType t ≡ b → EventStored d (reset t) a 0 (withSensors l d) o true t
     go false q =
-        let r = stored d (reset t) 0 _ _ (k .settled) (cond-false (ltb 2 t) _ _ _ q refl) refl (λ _. refl) (λ z. absurd (true≢false z)) refl in
+        let r = stored d (reset t) 0 _ _ (k .settled) (cond-false (ltb lastResetType t) _ _ _ q refl) refl (λ _. refl) (λ z. absurd (true≢false z)) refl in
         record {
           answer = ea ∙ ap (λ (x : Bool). cond x 2 0) q ∙ r .answer;
           stops = r .stops;
@@ -294,7 +294,7 @@ reset-stored d k t l a o fl ea el = go (ltb 2 t) refl
           flag = fl;
         }
     go true q =
-        let h : 2 < t = ltb-true 2 t q in
+        let h : lastResetType < t = ltb-true lastResetType t q in
         let r = refusal d (reset t) 2 (A.reset-refused d t h) refl in
         let s : withSensors l d ≡ d = ap (λ (m : List Sensor). withSensors m d) (el ∙ ap (λ (x : Bool). cond x (map powerCycleOf (d .sensors)) (d .sensors)) (ne-eqb t 0 (λ z. omega (arith, h, z)))) in
         record {
@@ -309,9 +309,9 @@ pub cycle-stored : (d : Drive) (k : SettledSixteen d) (l : List Sensor) (o : Boo
     → EventStored d (reset 0) 0 0 (withSensors l d) o true 0
 cycle-stored d k l o fl el = reset-stored d k 0 l 0 o fl refl el
 
-pub on-reset : (d : Drive) (k : SettledSixteen d) (t : ℕ) → eqb t 0 ≡ false → OnNothing d (reset t) (cond (ltb 2 t) 2 0) t
+pub on-reset : (d : Drive) (k : SettledSixteen d) (t : ℕ) → eqb t 0 ≡ false → OnNothing d (reset t) (cond (ltb lastResetType t) 2 0) t
 on-reset d k t z =
-    let h = reset-stored d k t (d .sensors) (cond (ltb 2 t) 2 0) true (λ q. absurd (true≢false q)) refl (cond-false (eqb t 0) _ _ _ z refl) in
+    let h = reset-stored d k t (d .sensors) (cond (ltb lastResetType t) 2 0) true (λ q. absurd (true≢false q)) refl (cond-false (eqb t 0) _ _ _ z refl) in
     record { answer = h .answer; stops = h .stops; whole = h .whole }
 
 -- ---- a Set of one row
@@ -383,7 +383,7 @@ set-steady (row ∷ rows) (suc i) v e f =
 
 -- with the flag: it is set where the new row is lockable
 pub row-stored : (d : Drive) (k : SettledSixteen d) (b : ℕ) (c : BandColumns) (bytes : List ℕ) (y : Row) (cs : List Bool) (m : RowAfter) (o o' due : Bool) (w : ℕ)
-    → 2 < w → (o ≡ false → any isLockable (d .rows) ≡ false) → isRow (d .«band_count») b ≡ true → cs ≡ conditionsBelow (d .«sensor_count») (d .sensors)
+    → lastResetType < w → (o ≡ false → any isLockable (d .rows) ≡ false) → isRow (d .«band_count») b ≡ true → cs ≡ conditionsBelow (d .«sensor_count») (d .sensors)
     → LeavesRow cs c bytes (getD (d .rows) b y) m → o' ≡ (o || m .lockable) → EventStored d (bandSet b c bytes) (m .number) 0 (withRows (set (d .rows) b (m .row)) d) o' due w
 row-stored d k b c bytes y cs m o o' due w g fl p ec h eo =
     settled-stored d (bandSet b c bytes) (m .number) 0 (withRows (set (d .rows) b (m .row)) d) o' due w k g
@@ -396,7 +396,7 @@ spans-settle : (d : Drive) (l : List Span) → settleOf d ≡ d → settleOf (wi
 unfolding settleOf conditionsOf
 spans-settle d l s = ap (λ (x : Drive). withSpans l x) s
 
-pub spans-stored : (d : Drive) (k : SettledSixteen d) (b start n : ℕ) (r : Placed) (a : ℕ) (o due : Bool) (w : ℕ) → 2 < w → (o ≡ false → any isLockable (d .rows) ≡ false)
+pub spans-stored : (d : Drive) (k : SettledSixteen d) (b start n : ℕ) (r : Placed) (a : ℕ) (o due : Bool) (w : ℕ) → lastResetType < w → (o ≡ false → any isLockable (d .rows) ≡ false)
     → Places (d .capacity) (d .«band_count») (d .spans) b start n r → a ≡ numberOf (r .answer) → EventStored d (geometry b start n) a 0 (withSpans (r .spans) d) o due w
 unfolding placeOf actOf
 spans-stored d k b start n r a o due w g fl h ea =
@@ -410,7 +410,7 @@ spans-stored d k b start n r a o due w g fl h ea =
     alike : (x : Bool) → eqb a 0 ≡ x → eqb (placeAnswer (d .capacity) (d .«band_count») (d .spans) b start n) 0 ≡ x
     alike x z = ap (λ (m : ℕ). eqb m 0) (sym (h .answer) ∙ sym ea) ∙ z
 
-pub transfer-stored : (d : Drive) (k : SettledSixteen d) (v start n : ℕ) (a : ℕ) (o due : Bool) (w : ℕ) → 2 < w → (o ≡ false → any isLockable (d .rows) ≡ false)
+pub transfer-stored : (d : Drive) (k : SettledSixteen d) (v start n : ℕ) (a : ℕ) (o due : Bool) (w : ℕ) → lastResetType < w → (o ≡ false → any isLockable (d .rows) ≡ false)
     → a ≡ cond (ltb 1 v) 2 (transferAnswer (d .capacity) (d .«band_count») (d .spans) (map (closedOn (sideOf v)) (d .rows)) start n) → EventStored d (transfer v start n) a 0 d o due w
 unfolding actOf answerOf transferAnswer
 transfer-stored d k v start n a o due w g fl ea =

@@ -82,18 +82,6 @@ struct SensorsAfter {
     stops: u8,
 }
 
-fn both(a: bool, b: bool) -> bool
-    ensures { λ r. ⌜ r ≡ (a && b) ⌝ }
-{
-    a && b
-}
-
-fn either(a: bool, b: bool) -> bool
-    ensures { λ r. ⌜ r ≡ (a || b) ⌝ }
-{
-    a || b
-}
-
 fn differ(a: bool, b: bool) -> bool
     ensures { λ r. ⌜ r ≡ not (Bool·beq a b) ⌝ }
 {
@@ -360,7 +348,7 @@ fn run_settled(
                 let new = r.row;
                 drive.rows[j] = new;
                 number = r.number;
-                any_lockable = either(any_lockable, r.lockable);
+                any_lockable = base::or(any_lockable, r.lockable);
             }
             Change::Elapse { ticks } => {
                 let all = drive.sensors;
@@ -429,7 +417,7 @@ fn run_settled(
                 locking = reset_type;
             }
         }
-        if both(any_lockable, due) {
+        if base::and(any_lockable, due) {
             let all = drive.sensors;
             let conditions = sensors::conditions(all, drive.sensor_count);
             any_lockable = false;

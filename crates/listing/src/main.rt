@@ -58,7 +58,7 @@ fn list(script: &[u8]) {
 
 fn main() {
     // One byte more than a script may have, so that a longer one is seen to be longer.
-    let mut space = [0; 65_537];
+    let mut space = [0; report::MOST_INPUT];
     let input = read_all(&mut space);
     if input.failed {
         io::write_all(

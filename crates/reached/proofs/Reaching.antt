@@ -14,19 +14,17 @@ use Rattle.base.proofs.Refusals.{appliesAt}
 use Rattle.base.proofs.Rows.{row-is}
 use Rattle.base.proofs.Jumps.{ticks-keep}
 use Rattle.sensor.specs.declared.single.Sensor.{Sensor}
-use Rattle.sensor.specs.Single.{freshSensor, readingOf, powerCycleOf}
-use Rattle.sensor.specs.Single.{sensorTick}
-use Rattle.sensor_set.specs.Columns.{setOf}
+use Rattle.sensor.specs.Single.{freshSensor, powerCycleOf, sensorTick}
+use Rattle.sensor_set.specs.Columns.{sensorAfter}
 use Rattle.sensor.specs.Sound.{Sound}
-use Rattle.sensor.proofs.Soundness.{fresh-sound, tick-sound, reading-sound, power-cycle-sound}
-use Rattle.sensor_set.proofs.Sets.{set-sound}
+use Rattle.sensor_set.proofs.Keeping.{keeps-sound}
 use Rattle.sensor.proofs.Motion.{fresh-tick, fresh-power-cycle}
 use Rattle.token_reader.specs.Format.{Bytes}
-use Rattle.token_reader.specs.Read.{TokenOutcome, elements, refusal, readTokens, expressionIn}
+use Rattle.token_reader.specs.Read.{mostTokenBytes, TokenOutcome, elements, refusal, readTokens, expressionIn}
 use Rattle.token_reader.proofs.Fits.{read-fits}
 use Rattle.band.specs.declared.Row.{Row}
 use Rattle.band_columns.specs.declared.BandColumns.{BandColumns}
-use Rattle.band.specs.Rows.{freshRow, withLocked, lockUnder, settleRow, inSet, resetRow}
+use Rattle.band.specs.Rows.{allResets, freshRow, withLocked, lockUnder, settleRow, inSet, resetRow}
 use Rattle.band_columns.specs.Sets.{columnsFit, formedRow}
 use Rattle.band.proofs.Settling.{fresh-settles, fresh-reset}
 use Rattle.geometry.specs.declared.Span.{Span}
@@ -35,23 +33,9 @@ use Rattle.geometry.specs.Events.{noSpan, Within}
 use Rattle.geometry.proofs.Arms.{end-up-to}
 use Rattle.geometry.proofs.Invariant.{fresh-apart}
 use Rattle.drive.specs.declared.Drive.{Drive}
-use Rattle.drive.specs.State.{headerFits, freshDrive, withRows, withSpans, withSensors, conditionsOf, settleOf, fallOf, tickOf}
-use Rattle.drive.specs.Events.{
-  Event,
-  reading,
-  elapse,
-  reset,
-  sensorSet,
-  bandSet,
-  geometry,
-  transfer,
-  refusals,
-  answerOf,
-  formedFrom,
-  actOf,
-  stepOf,
-  runOf,
-}
+use Rattle.drive.specs.State.{mostBlocks, mostBands, mostSensors, headerFits, freshDrive, withRows, withSpans, withSensors, conditionsOf, settleOf, fallOf, tickOf}
+use Rattle.drive.specs.Events.{Shape, ticking, resetting, setting, sensing, placing, looking, shapeOf, ifSetting}
+use Rattle.drive.specs.Events.{Event, refusalsBy, refusals, answerOf, formedFrom, actBy, actOf, stepOf, runOf}
 use Rattle.drive.proofs.Answers.{granted-free}
 use Rattle.drive.proofs.Settling.{settle-twice}
 use Rattle.reached.specs.Reached.{Table, Stored, RowFits, InRange, Shaped, Reached, Fields, AllFields}
@@ -99,7 +83,7 @@ lock-within c t =
     (within 1 (named 2 (c .mask)) (c .«write_lock_enabled»))
     (within 1 (named 4 (c .mask)) (c .«read_locked»))
     (within 1 (named 8 (c .mask)) (c .«write_locked»))
-    (within 7 (named 16 (c .mask)) (c .«lock_on_reset»))
+    (within allResets (named 16 (c .mask)) (c .«lock_on_reset»))
     t
 
 formed-fits : (c : BandColumns) (tokens : List ℕ) → columnsFit c ≡ true → Bytes tokens → (row : Row) → RowFits row
@@ -132,7 +116,7 @@ module _ (d : Drive) (r : Shaped d) where
       (map-table RowFits freshRow (settleRow (conditionsOf d)) (settle-fits (conditionsOf d)) _ _ (r .rows) (fresh-settles (conditionsOf d)))
 
   fall-shaped : Shaped (fallOf d)
-  fall-shaped = with-sensors _ (map-table Sound freshSensor sensorTick tick-sound _ _ (r .sensors) fresh-tick)
+  fall-shaped = with-sensors _ (map-table Sound freshSensor sensorTick (keeps-sound .tick) _ _ (r .sensors) fresh-tick)
 
 tick-shaped : (d : Drive) → Shaped d → Shaped (tickOf d)
 unfolding tickOf
@@ -143,22 +127,20 @@ tick-shaped d r = settle-shaped (fallOf d) (fall-shaped d r)
 counted : (count i : ℕ) → not (isRow count i) ≡ false → (i < count) × (i < 16)
 counted count i e = row-is count i (not-false (isRow count i) e)
 
-act-shaped : (d : Drive) (e : Event) → Fields e → ((i : ℕ) → appliesAt (refusals d e) i ≡ false) → Shaped d → Shaped (actOf d e)
-unfolding actOf
-act-shaped d (reading s v) f q r =
-    with-sensors d r _ (modify-table Sound freshSensor (readingOf v) (reading-sound v) _ _ (r .sensors) s (counted _ s (q 0) .0))
-act-shaped d (elapse n) f q r = ticks-keep tickOf Shaped tick-shaped n d r
-act-shaped d (reset t) f q r =
+shape-shaped : (d : Drive) (y : Shape) → Bytes (ifSetting y (λ b c tokens. tokens) []) → ((i : ℕ) → appliesAt (refusalsBy d y) i ≡ false)
+    → Shaped d → Shaped (actBy d y)
+shape-shaped d (ticking n) f q r = ticks-keep tickOf Shaped tick-shaped n d r
+shape-shaped d (resetting t) f q r =
     with-sensors _ (with-rows d r _ (map-table RowFits freshRow (resetRow t) (reset-fits t) _ _ (r .rows) (fresh-reset t))) _
     (cond-either (Table Sound freshSensor (d .«sensor_count»)) (eqb t 0) (map powerCycleOf (d .sensors)) (d .sensors)
-    (λ e. map-table Sound freshSensor powerCycleOf power-cycle-sound _ _ (r .sensors) fresh-power-cycle) (λ e. r .sensors))
-act-shaped d (sensorSet s c) f q r =
-    with-sensors d r _ (modify-table Sound freshSensor (setOf c) (set-sound c) _ _ (r .sensors) s (counted _ s (q 0) .0))
-act-shaped d (bandSet b c tokens) f q r =
-    let fits : columnsFit c ≡ true = not-false (columnsFit c) (neither (not (columnsFit c)) (ltb 1024 (length tokens)) (q 1) .0) in
+    (λ e. map-table Sound freshSensor powerCycleOf (keeps-sound .cycle) _ _ (r .sensors) fresh-power-cycle) (λ e. r .sensors))
+shape-shaped d (setting b c tokens) f q r =
+    let fits : columnsFit c ≡ true = not-false (columnsFit c) (neither (not (columnsFit c)) (ltb mostTokenBytes (length tokens)) (q 1) .0) in
     with-rows d r _
     (modify-table RowFits freshRow (formedFrom c tokens) (formed-fits c tokens fits f) _ _ (r .rows) b (counted _ b (q 0) .0))
-act-shaped d (geometry b start n) f q r =
+shape-shaped d (sensing s x) f q r =
+    with-sensors d r _ (modify-table Sound freshSensor (sensorAfter x) (keeps-sound .event x) _ _ (r .sensors) s (counted _ s (q 0) .0))
+shape-shaped d (placing b start n) f q r =
     let e = end-up-to (d .capacity) start n (q 2) in
     let k = counted (d .«band_count») b (q 0) in
     with-spans d r _
@@ -166,7 +148,11 @@ act-shaped d (geometry b start n) f q r =
     (record { begins = e .0; ends = omega arith })
     (k .0) (k .1) (r .spans))
     (q 3)
-act-shaped d (transfer w start n) f q r = r
+shape-shaped d (looking w start n) f q r = r
+
+act-shaped : (d : Drive) (e : Event) → Fields e → ((i : ℕ) → appliesAt (refusals d e) i ≡ false) → Shaped d → Shaped (actOf d e)
+unfolding actOf
+act-shaped d e f q r = shape-shaped d (shapeOf e) f q r
 
 -- ---- the theorems
 
@@ -187,14 +173,14 @@ in-range : (capacity bands sensors : ℕ) → headerFits capacity bands sensors 
 unfolding headerFits
 in-range capacity bands sensors h =
     let h1 = and-right (leb 1 capacity) _ h in
-    let h2 = and-right (leb capacity 281474976710656) _ h1 in
+    let h2 = and-right (leb capacity mostBlocks) _ h1 in
     let h3 = and-right (leb 1 bands) _ h2 in
     record {
       some-blocks = leb-true 1 capacity (and-left _ _ h);
-      few-blocks = leb-true capacity 281474976710656 (and-left _ _ h1);
+      few-blocks = leb-true capacity mostBlocks (and-left _ _ h1);
       some-bands = leb-true 1 bands (and-left _ _ h2);
-      few-bands = leb-true bands 16 (and-left _ _ h3);
-      few-sensors = leb-true sensors 16 (and-right (leb bands 16) (leb sensors 16) h3);
+      few-bands = leb-true bands mostBands (and-left _ _ h3);
+      few-sensors = leb-true sensors mostSensors (and-right (leb bands mostBands) (leb sensors mostSensors) h3);
     }
 
 fresh-shaped : (capacity bands sensors : ℕ) → headerFits capacity bands sensors ≡ true → Shaped (freshDrive capacity bands sensors)
@@ -204,7 +190,7 @@ fresh-shaped capacity bands sensors h = record {
   rows = fresh-table RowFits freshRow bands fresh-fits;
   spans = fresh-table (Within capacity) noSpan bands (fresh-within capacity);
   apart = fresh-apart bands;
-  sensors = fresh-table Sound freshSensor sensors fresh-sound;
+  sensors = fresh-table Sound freshSensor sensors (keeps-sound .fresh);
 }
 
 pub fresh-reached : (capacity bands sensors : ℕ) → headerFits capacity bands sensors ≡ true → Reached (freshDrive capacity bands sensors)

@@ -4,40 +4,20 @@ use native.Mathlib.Omega.{arith}
 use mathlib.Core.Bool.{Bool, true, not}
 use mathlib.Core.List.{List, [], _∷_}
 use lib.ListN.{length}
-use Rattle.base.specs.Lists.{any}
-use Rattle.base.specs.Ticks.{ticks, stops}
-use Rattle.phases.specs.Phases.{moveOf}
-use Rattle.sensor.specs.Level.{levelRule}
-use Rattle.sensor.specs.Single.{freshSensor, judgeOf, turnedTo, readingOf, enableOf}
-use Rattle.sensor.specs.Single.{afterCause}
-use Rattle.sensor.specs.Single.{sensorTick}
-use Rattle.sensor_set.specs.Columns.{columnsFit, storedOf, switchedOf, setOf}
 use Rattle.sensor.proofs.Worked.{below-both, at-both, at-off, above-off, two-old, three-new}
 use Rattle.evaluator.specs.Value.{evaluate, valueOf}
 use Rattle.evaluator.proofs.Bits.{absent}
-use Rattle.token_reader.specs.Format.{startsWith, partIn, isEnd}
-use Rattle.token_reader.specs.Read.{readElements, readList, readTokens}
 use Rattle.token_writer.specs.Write.{bodyOf}
-use Rattle.band.specs.Rows.{freshRow, settleRow}
-use Rattle.band_columns.specs.Sets.{formedRow}
-use Rattle.band_columns.specs.Sets.{columnsFit as bandColumnsFit}
-use Rattle.geometry.specs.Blocks.{anyBlock}
-use Rattle.geometry.specs.Events.{noSpan}
-use Rattle.drive.specs.State.{freshDrive, settleOf, tickOf, stopNext}
-use Rattle.drive.specs.Events.{answerOf, actOf, stepOf, stopsOf, runOf}
+use Rattle.drive.proofs.Rules.{drive-rules}
 use Rattle.reached.specs.Starred.{row, NOT, Starred}
 
 not-99 : (conditions : List Bool) → length conditions ≡ 16 → valueOf conditions (row 99 ∷ NOT ∷ []) ≡ true
 unfolding valueOf evaluate
 not-99 conditions e = ap not (sym (absent conditions 99 e (omega arith)))
 
--- The cases with numbers in them compute, through these definitions: tokens and values, rows, sensors, geometry, and the drive.
+-- The cases with numbers in them compute: through the bytes of tokens, the value of an expression, and the rules of the drive.
 pub starred : Starred
-unfolding bodyOf readTokens readList readElements isEnd partIn startsWith valueOf evaluate
-    bandColumnsFit formedRow freshRow settleRow
-    columnsFit setOf storedOf switchedOf enableOf readingOf judgeOf levelRule turnedTo afterCause moveOf sensorTick freshSensor
-    anyBlock noSpan
-    freshDrive settleOf tickOf stopNext any ticks stops answerOf actOf stepOf stopsOf runOf
+unfolding bodyOf valueOf evaluate drive-rules
 starred = record {
   takes-74 = refl;
   empty-reads = refl;

@@ -15,7 +15,7 @@ use Rattle.band.specs.Rows.{freshRow, allResets}
 use Rattle.geometry.specs.Blocks.{bandSpans, overlapping}
 use Rattle.geometry.specs.Events.{noSpan, Within}
 use Rattle.drive.specs.declared.Drive.{Drive}
-use Rattle.drive.specs.State.{settleOf}
+use Rattle.drive.specs.State.{mostBlocks, mostBands, mostSensors, settleOf}
 use Rattle.drive.specs.Events.{Event, shapeOf, ifSetting}
 
 -- An array of a drive, of which the header counts the first ones.
@@ -48,12 +48,12 @@ pub record RowFits (row : Row) : Type 0 where
 pub record InRange (capacity bands sensors : ℕ) : Type 0 where
   -- "Capacity is 1 to 2^48 blocks"
   pub some-blocks : 1 ≤ capacity
-  pub few-blocks : capacity ≤ 281474976710656
+  pub few-blocks : capacity ≤ mostBlocks
   -- "bands 1 to 16 (band 0 is the global one)"
   pub some-bands : 1 ≤ bands
-  pub few-bands : bands ≤ 16
+  pub few-bands : bands ≤ mostBands
   -- "sensors 0 to 16"
-  pub few-sensors : sensors ≤ 16
+  pub few-sensors : sensors ≤ mostSensors
 
 -- All of it but the settling.
 pub record Shaped (d : Drive) : Type 0 where

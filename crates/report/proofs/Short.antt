@@ -31,12 +31,12 @@ use Rattle.elapse.proofs.Calm.{stops-few}
 use Rattle.reached.proofs.Reaching.{fresh-reached}
 use Rattle.event_reader.specs.Fields.{Parsed, event, broken, eventAt}
 use Rattle.script.specs.Events.{Events, events, badFrom, before, andThen}
-use Rattle.script.specs.Whole.{Header, header, noHeader, headerAt, Script, accepted, bad, withEvents, withHeader, readScript}
+use Rattle.script.specs.Whole.{mostScriptBytes, mostEvents, Header, header, noHeader, headerAt, Script, accepted, bad, withEvents, withHeader, readScript}
 use Rattle.script.specs.Parts.{eventsIn, eventsFrom}
 use Rattle.script.proofs.Few.{few-events}
 use Rattle.run.proofs.Whole.{accepted-is}
 use Rattle.report.specs.Lines.{decimal, fields, line, lines, eventLine, eventLines, bandLine, bandLines, sensorLine, sensorLines, driveLines, badLine}
-use Rattle.report.specs.Listing.{listing}
+use Rattle.report.specs.Listing.{mostListed, listing}
 use Rattle.report.proofs.Decimal.{few-digits}
 
 -- ---- a line
@@ -136,7 +136,7 @@ stops-sixteen d e h =
     elapsed (setting b c bytes) = omega arith
     elapsed (sensing s x) = omega arith
     elapsed (placing b start n) = omega arith
-    elapsed looking = omega arith
+    elapsed (looking w start n) = omega arith
 
 -- what an event gets on any drive that is reached
 along-few : (f : Drive → Event → ℕ) (w : ℕ) → 0 < w → ((d : Drive) (e : Event) → Sixteen d → f d e < w) → (d : Drive) (es : List Event) (i : ℕ) → Sixteen d
@@ -165,28 +165,28 @@ place-within (suc k) s at place h = go (λ n. place-within k s n place) (ltb at 
 
 bad-place : (s : List ℕ) (place : ℕ) → readScript s ≡ bad place → place < 100000
 unfolding readScript eventsFrom
-bad-place s place q = go (ltb 65536 (length s)) refl (headerAt s) q
+bad-place s place q = go (ltb mostScriptBytes (length s)) refl (headerAt s) q
   where
-    all : (a b c n : ℕ) → length s ≤ 65536 → (o : Events) → eventsFrom s n ≡ o → withEvents a b c o ≡ bad place → place < 100000
+    all : (a b c n : ℕ) → length s ≤ mostScriptBytes → (o : Events) → eventsFrom s n ≡ o → withEvents a b c o ≡ bad place → place < 100000
     all a b c n l (events es) p q = let w : _≡_ {A = ℕ} 0 1 = cc in absurd (omega arith)
     all a b c n l (badFrom x) p q = let e : x ≡ place = cc in omega (arith, l, e, place-within _ s n x p)
 
     zero-place : bad 0 ≡ bad place → place < 100000
     zero-place q = let e : 0 ≡ place = cc in omega (arith, e)
 
-    go : (t : Bool) → ltb 65536 (length s) ≡ t → (h : Header) → cond t (bad 0) (withHeader s h) ≡ bad place → place < 100000
+    go : (t : Bool) → ltb mostScriptBytes (length s) ≡ t → (h : Header) → cond t (bad 0) (withHeader s h) ≡ bad place → place < 100000
     go true l h q = zero-place q
-    go false l (header a b c n) q = let j = ltb-false 65536 (length s) l in all a b c n (omega (arith, j)) (eventsFrom s n) refl q
+    go false l (header a b c n) q = let j = ltb-false mostScriptBytes (length s) l in all a b c n (omega (arith, j)) (eventsFrom s n) refl q
     go false l noHeader q = zero-place q
 
 -- ---- the listing
 
-module _ (capacity bands sensors : ℕ) (es : List Event) (fits : headerFits capacity bands sensors ≡ true) (few : length es ≤ 32766) where
+module _ (capacity bands sensors : ℕ) (es : List Event) (fits : headerFits capacity bands sensors ≡ true) (few : length es ≤ mostEvents) where
   -- no timer of the drive at the end exceeds the greatest timeout
   timed-after : Each Timed (runOf (freshDrive capacity bands sensors) es)
   timed-after = run-each Timed keeps-timed (freshDrive capacity bands sensors) es (fresh-each Timed keeps-timed capacity bands sensors)
 
-  accepted-short : length (listing (accepted capacity bands sensors es)) ≤ 426486
+  accepted-short : length (listing (accepted capacity bands sensors es)) ≤ mostListed
   unfolding listing freshDrive
   accepted-short =
       let fresh = freshDrive capacity bands sensors in
@@ -213,10 +213,10 @@ module _ (capacity bands sensors : ℕ) (es : List Event) (fits : headerFits cap
       )
 
 -- an output of 426,486 bytes is never too short
-pub never-short : (s : List ℕ) → length (listing (readScript s)) ≤ 426486
+pub never-short : (s : List ℕ) → length (listing (readScript s)) ≤ mostListed
 unfolding listing
 never-short s = go (readScript s) refl
   where
-    go : (o : Script) → readScript s ≡ o → length (listing o) ≤ 426486
+    go : (o : Script) → readScript s ≡ o → length (listing o) ≤ mostListed
     go (accepted capacity bands sensors es) q = accepted-short capacity bands sensors es (accepted-is s capacity bands sensors es q .fits) (few-events s capacity bands sensors es q)
     go (bad place) q = omega (arith, bad-short place (bad-place s place q))

@@ -10,7 +10,7 @@ use Rattle.answer.specs.Numbers.{numberOf}
 use Rattle.drive.specs.State.{freshDrive}
 use Rattle.drive.specs.Events.{Event, answerOf, stopsOf, runOf, answersOf, stopsIn, over}
 use Rattle.drive.proofs.Keeping.{run-header, along-length}
-use Rattle.script.specs.Whole.{Script, accepted, bad, readScript}
+use Rattle.script.specs.Whole.{mostScriptBytes, mostEvents, Script, accepted, bad, readScript}
 use Rattle.script.proofs.Few.{few-events}
 use Rattle.run.specs.declared.Ran.{Ran}
 use Rattle.run.specs.Outcome.{RunOutcome, outcome, outcomeIn, runEvents, runScript}
@@ -18,7 +18,7 @@ use Rattle.reached.proofs.Reaching.{fresh-reached}
 use Rattle.run.proofs.Whole.{all-taken, accepted-is}
 use Rattle.report.specs.declared.Listed.{Listed}
 use Rattle.report.specs.Lines.{lines, eventLines, driveLines}
-use Rattle.report.specs.Listing.{listing, Told, told, toldIn, listOf}
+use Rattle.report.specs.Listing.{mostListed, listing, Told, told, toldIn, listOf}
 use Rattle.report.specs.Parts.{Puts, Room, runLines, Sized}
 use Rattle.report.proofs.Short.{never-short}
 use Rattle.report.proofs.Handing.{handed, put-over}
@@ -43,18 +43,18 @@ getD-over bytes lent i h = front bytes (drop (length bytes) lent) i h
 abbrev sizedIn : RunOutcome → Type 0
 sizedIn (outcome answer place count drive answers stops) = Sized count drive answers stops
 
-module _ (s answers stops : List ℕ) (long : 32766 ≤ length answers) (wide : 32766 ≤ length stops) where
+module _ (s answers stops : List ℕ) (long : mostEvents ≤ length answers) (wide : mostEvents ≤ length stops) where
   -- a script that reads to its end is run whole
   module _ (capacity bands sensors : ℕ) (es : List Event) (q : readScript s ≡ accepted capacity bands sensors es) where
-    pub whole : runScript (accepted capacity bands sensors es) 65536 answers stops
+    pub whole : runScript (accepted capacity bands sensors es) mostScriptBytes answers stops
         ≡ outcome 0 0 (length es) (runOf (freshDrive capacity bands sensors) es) (over (answersOf (freshDrive capacity bands sensors) es) answers)
         (over (stopsIn (freshDrive capacity bands sensors) es) stops)
     whole =
         let few = few-events s capacity bands sensors es q in
-        ap (λ (l : List Event). runEvents (freshDrive capacity bands sensors) l answers stops) (all-taken 65536 es (omega (arith, few)))
+        ap (λ (l : List Event). runEvents (freshDrive capacity bands sensors) l answers stops) (all-taken mostScriptBytes es (omega (arith, few)))
         ∙ rw (le-leb (length es) (length answers) (omega (arith, few, long)), le-leb (length es) (length stops) (omega (arith, few, wide)))
 
-    accepted-lines : runLines (runScript (accepted capacity bands sensors es) 65536 answers stops) ≡ listing (accepted capacity bands sensors es)
+    accepted-lines : runLines (runScript (accepted capacity bands sensors es) mostScriptBytes answers stops) ≡ listing (accepted capacity bands sensors es)
     unfolding listing
     accepted-lines =
         let fresh = freshDrive capacity bands sensors in
@@ -69,7 +69,7 @@ module _ (s answers stops : List ℕ) (long : 32766 ≤ length answers) (wide : 
         ap (λ (n : ℕ). driveLines n (d .«sensor_count») d) (h .1) ∙ ap (λ (n : ℕ). driveLines bands n d) (h .2) in
         ap runLines whole ∙ (λ i. e i ++ g i)
 
-    accepted-sized : sizedIn (runScript (accepted capacity bands sensors es) 65536 answers stops)
+    accepted-sized : sizedIn (runScript (accepted capacity bands sensors es) mostScriptBytes answers stops)
     unfolding freshDrive
     accepted-sized =
         let fresh = freshDrive capacity bands sensors in
@@ -82,40 +82,40 @@ module _ (s answers stops : List ℕ) (long : 32766 ≤ length answers) (wide : 
           wide = omega (arith, length-append (stopsIn fresh es) (drop (length (stopsIn fresh es)) stops), along-length stopsOf fresh es);
         })
 
-  script-lines : runLines (runScript (readScript s) 65536 answers stops) ≡ listing (readScript s)
+  script-lines : runLines (runScript (readScript s) mostScriptBytes answers stops) ≡ listing (readScript s)
   unfolding listing
   script-lines = go (readScript s) refl
     where
-      go : (o : Script) → readScript s ≡ o → runLines (runScript o 65536 answers stops) ≡ listing o
+      go : (o : Script) → readScript s ≡ o → runLines (runScript o mostScriptBytes answers stops) ≡ listing o
       go (accepted capacity bands sensors es) q = accepted-lines capacity bands sensors es q
       go (bad place) q = refl
 
-  script-sized : sizedIn (runScript (readScript s) 65536 answers stops)
+  script-sized : sizedIn (runScript (readScript s) mostScriptBytes answers stops)
   unfolding freshDrive
   script-sized = go (readScript s) refl
     where
-      go : (o : Script) → readScript s ≡ o → sizedIn (runScript o 65536 answers stops)
+      go : (o : Script) → readScript s ≡ o → sizedIn (runScript o mostScriptBytes answers stops)
       go (accepted capacity bands sensors es) q = accepted-sized capacity bands sensors es q
       go (bad place) q = record { few-bands = omega arith; few-sensors = omega arith; long = omega arith; wide = omega arith }
 
-  module _ (r : Ran) (answers' stops' : List ℕ) (e : outcomeIn r answers' stops' ≡ runScript (readScript s) 65536 answers stops) where
+  module _ (r : Ran) (answers' stops' : List ℕ) (e : outcomeIn r answers' stops' ≡ runScript (readScript s) mostScriptBytes answers stops) where
     pub ran-sized : Sized (r .count) (r .drive) answers' stops'
     ran-sized = subst sizedIn (sym e) script-sized
 
     ran-lines : runLines (outcomeIn r answers' stops') ≡ listing (readScript s)
     ran-lines = ap runLines e ∙ script-lines
 
-    pub ran-short : length (runLines (outcomeIn r answers' stops')) ≤ 426486
+    pub ran-short : length (runLines (outcomeIn r answers' stops')) ≤ mostListed
     ran-short = omega (arith, never-short s, ap length ran-lines)
 
-    pub ran-room : (out : List ℕ) → 426486 ≤ length out → Room (runLines (outcomeIn r answers' stops')) 0 out
+    pub ran-room : (out : List ℕ) → mostListed ≤ length out → Room (runLines (outcomeIn r answers' stops')) 0 out
     ran-room out enough = omega (arith, enough, ran-short)
 
     pub ran-listed : (lent after : List ℕ) (t : Listed) → toldIn t after ≡ listOf (runLines (outcomeIn r answers' stops')) lent → toldIn t after ≡ listOf (listing (readScript s)) lent
     ran-listed lent after t h = h ∙ ap (λ (bytes : List ℕ). listOf bytes lent) ran-lines
 
     -- written straight into an output that is long enough
-    pub straight-listed : (out after : List ℕ) (n : ℕ) → 426486 ≤ length out → Puts (runLines (outcomeIn r answers' stops')) out 0 n after
+    pub straight-listed : (out after : List ℕ) (n : ℕ) → mostListed ≤ length out → Puts (runLines (outcomeIn r answers' stops')) out 0 n after
         → told 0 n after ≡ listOf (listing (readScript s)) out
     straight-listed out after n enough p =
         let b : List ℕ = runLines (outcomeIn r answers' stops') in
@@ -126,7 +126,7 @@ abbrev answerIn : Told → ℕ
 answerIn (told answer n output) = answer
 
 -- an output of 426,486 bytes is never too short
-pub long-enough : (s lent after : List ℕ) (t : Listed) → toldIn t after ≡ listOf (listing (readScript s)) lent → 426486 ≤ length lent → numberOf (t .answer) ≡ 0
+pub long-enough : (s lent after : List ℕ) (t : Listed) → toldIn t after ≡ listOf (listing (readScript s)) lent → mostListed ≤ length lent → numberOf (t .answer) ≡ 0
 long-enough s lent after t h k =
     ap answerIn h ∙ ap (λ (b : Bool). answerIn (cond b (told 0 (length (listing (readScript s))) (over (listing (readScript s)) lent)) (told 11 0 lent)))
     (le-leb (length (listing (readScript s))) (length lent) (omega (arith, k, never-short s)))

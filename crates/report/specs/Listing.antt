@@ -18,6 +18,10 @@ listing (accepted capacity bands sensors es) =
     eventLines (answersOf fresh es) (stopsIn fresh es) (length es) ++ driveLines bands sensors (runOf fresh es)
 listing (bad place) = badLine place
 
+-- the most bytes of a listing (theorem `never-short`): 32,766 event lines of 13 bytes, 16 band lines of 11 and 16 sensor lines of 22
+abbrev pub mostListed : ℕ
+mostListed = 426486
+
 -- ---- what listing a script hands back, with the lent output
 
 -- answer, number of bytes, and the output

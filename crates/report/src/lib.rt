@@ -5,9 +5,9 @@ ghost use mathlib.Core.Path.{_≡_};
 ghost use Prim.Native.Nat.{_≤_};
 ghost use lib.ListN.{length, take};
 ghost use Rattle.answer.specs.Numbers.{numberOf};
-ghost use Rattle.script.specs.Whole.{readScript};
+ghost use Rattle.script.specs.Whole.{mostEvents, readScript};
 ghost use Rattle.run.specs.Outcome.{outcomeIn};
-ghost use Rattle.report.specs.Listing.{listing, toldIn, listOf};
+ghost use Rattle.report.specs.Listing.{listing, mostListed, toldIn, listOf};
 ghost use Rattle.report.specs.Parts.{Puts, Room, runLines, Sized};
 use answer::Answer;
 use run::Ran;
@@ -20,6 +20,9 @@ pub struct Listed {
 
 // An output of so many bytes is never too short: 32,766 lines of events at most, 16 of bands and 16 of sensors.
 pub const MOST: usize = 426_486;
+
+// One byte more than a script may have: so many bytes of an input show whether it is too long.
+pub const MOST_INPUT: usize = script::MOST_BYTES + 1;
 
 // Writes the listing that a run's result and its buffers give, from the output's start.
 fn put_run(out: &mut [u8], ran: Ran, answers: &[u8], stops: &[u8]) -> usize
@@ -61,7 +64,7 @@ fn blank() -> [u8; MOST] {
 
 // Writes the listing of a run on a page of its own, which costs an instruction for each of its bytes, and hands it over where it fits.
 fn put_by_page(out: &mut [u8], ran: Ran, answers: &[u8], stops: &[u8]) -> Listed
-    requires { ⌜ (length (runLines (outcomeIn ran (now answers) (now stops))) ≤ 426486) × Sized (ran .count) (ran .drive) (now answers) (now stops) ⌝ }
+    requires { ⌜ (length (runLines (outcomeIn ran (now answers) (now stops))) ≤ mostListed) × Sized (ran .count) (ran .drive) (now answers) (now stops) ⌝ }
     ensures { λ r. ⌜ toldIn r (now (out .exit)) ≡ listOf (runLines (outcomeIn ran (now (answers .entry)) (now (stops .entry)))) (now (out .entry)) ⌝ }
 {
     let mut page = blank();
@@ -71,7 +74,7 @@ fn put_by_page(out: &mut [u8], ran: Ran, answers: &[u8], stops: &[u8]) -> Listed
 
 // Lists a script by way of lent memory: a byte for each event in two buffers. An output that is long enough for every listing is written straight.
 fn list_by(script: &[u8], out: &mut [u8], answers: &mut [u8], stops: &mut [u8]) -> Listed
-    requires { ⌜ (32766 ≤ length (now answers)) × (32766 ≤ length (now stops)) ⌝ }
+    requires { ⌜ (mostEvents ≤ length (now answers)) × (mostEvents ≤ length (now stops)) ⌝ }
     ensures { λ r. ⌜ toldIn r (now (out .exit)) ≡ listOf (listing (readScript (now (script .entry)))) (now (out .entry)) ⌝ }
 {
     let ran = run::run(script, run::WHOLE, answers, stops);
@@ -88,7 +91,7 @@ fn list_by(script: &[u8], out: &mut [u8], answers: &mut [u8], stops: &mut [u8]) 
 // Lists a script: document 01's listing into the lent output, from its start. A refusal leaves the output as it was.
 pub fn list(script: &[u8], out: &mut [u8]) -> Listed
     ensures { λ r. ⌜ toldIn r (now (out .exit)) ≡ listOf (listing (readScript (now (script .entry)))) (now (out .entry)) ⌝ }
-    ensures enough { λ r. ⌜ (426486 ≤ length (now (out .entry)) → numberOf (r .answer) ≡ 0) ⌝ }
+    ensures enough { λ r. ⌜ (mostListed ≤ length (now (out .entry)) → numberOf (r .answer) ≡ 0) ⌝ }
 {
     let mut answers = [0; run::MOST_EVENTS];
     let mut stops = [0; run::MOST_EVENTS];

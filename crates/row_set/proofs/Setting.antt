@@ -16,7 +16,7 @@ use Rattle.answer.specs.Numbers.{numberOf}
 use Rattle.expression.specs.declared.Expression.{Expression}
 use Rattle.expression.specs.Elements.{expressionOf}
 use Rattle.token_reader.specs.declared.Tokens.{Tokens}
-use Rattle.token_reader.specs.Read.{readTokens, expressionIn, answerIn, Reads}
+use Rattle.token_reader.specs.Read.{mostTokenBytes, readTokens, expressionIn, answerIn, Reads}
 use Rattle.token_reader.proofs.Numbers.{DoneOrBroken, read-numbers}
 use Rattle.band.specs.declared.Row.{Row}
 use Rattle.band_columns.specs.declared.BandColumns.{BandColumns}
@@ -28,12 +28,12 @@ use Rattle.row_set.specs.declared.RowAnswer.{RowAnswer}
 use Rattle.row_set.specs.Forming.{rowAnswer, SetsRow}
 use Rattle.row_set.specs.Parts.{TokensFor, Forms}
 
-pub columns-unfit : (c : BandColumns) (bytes : List ℕ) (t : Bool) → t ≡ bandColumnsFit c → t ≡ false → true ≡ (not (bandColumnsFit c) || ltb 1024 (length bytes))
-columns-unfit c bytes t p e = sym (ap (λ (x : Bool). not x || ltb 1024 (length bytes)) (sym p ∙ e))
+pub columns-unfit : (c : BandColumns) (bytes : List ℕ) (t : Bool) → t ≡ bandColumnsFit c → t ≡ false → true ≡ (not (bandColumnsFit c) || ltb mostTokenBytes (length bytes))
+columns-unfit c bytes t p e = sym (ap (λ (x : Bool). not x || ltb mostTokenBytes (length bytes)) (sym p ∙ e))
 
 pub columns-fit : (c : BandColumns) (bytes : List ℕ) (t : Bool) → t ≡ bandColumnsFit c → t ≡ true
-    → ltb 1024 (length bytes) ≡ (not (bandColumnsFit c) || ltb 1024 (length bytes))
-columns-fit c bytes t p e = sym (ap (λ (x : Bool). not x || ltb 1024 (length bytes)) (sym p ∙ e))
+    → ltb mostTokenBytes (length bytes) ≡ (not (bandColumnsFit c) || ltb mostTokenBytes (length bytes))
+columns-fit c bytes t p e = sym (ap (λ (x : Bool). not x || ltb mostTokenBytes (length bytes)) (sym p ∙ e))
 
 pub tokens-read : (c : BandColumns) (bytes : List ℕ) (r : Tokens) (t : Bool) → t ≡ named 32 (c .mask) → t ≡ true → Reads bytes r → TokensFor c bytes r
 tokens-read c bytes r t p e h = record {
@@ -90,7 +90,7 @@ known : (b : Bool) (n : ℕ) → DoneOrBroken n → DoneOrBroken (cond b n 0)
 known true n k = k
 known false n k = inl refl
 
-module _ (cs : List Bool) (c : BandColumns) (bytes : List ℕ) (row : Row) (u : Bool) (pu : u ≡ (not (bandColumnsFit c) || ltb 1024 (length bytes))) where
+module _ (cs : List Bool) (c : BandColumns) (bytes : List ℕ) (row : Row) (u : Bool) (pu : u ≡ (not (bandColumnsFit c) || ltb mostTokenBytes (length bytes))) where
   -- a refusal, by its number
   refused : (a : Answer) → numberOf a ≡ rowAnswer cs c bytes row → eqb (numberOf a) 0 ≡ false → SetsRow cs c bytes row (record { answer = a; row = row })
   refused a p z = record {
@@ -100,7 +100,7 @@ module _ (cs : List Bool) (c : BandColumns) (bytes : List ℕ) (row : Row) (u : 
 
   pub set-unfit : u ≡ true → SetsRow cs c bytes row (record { answer = OutOfRange; row = row })
   unfolding rowAnswer
-  set-unfit eu = refused OutOfRange (cond-true (not (bandColumnsFit c) || ltb 1024 (length bytes)) 2 _ _ (sym pu ∙ eu) refl) refl
+  set-unfit eu = refused OutOfRange (cond-true (not (bandColumnsFit c) || ltb mostTokenBytes (length bytes)) 2 _ _ (sym pu ∙ eu) refl) refl
 
   module _ (eu : u ≡ false) (r : Tokens) (h : TokensFor c bytes r) where
     k : ℕ
@@ -112,13 +112,13 @@ module _ (cs : List Bool) (c : BandColumns) (bytes : List ℕ) (row : Row) (u : 
     -- the answer, once the fields fit
     left : cond (eqb k 3) 3 (cond (eqb k 4) 4 (cond isIt 8 0)) ≡ rowAnswer cs c bytes row
     unfolding rowAnswer k isIt
-    left = cond-false (not (bandColumnsFit c) || ltb 1024 (length bytes)) 2 _ _ (sym pu ∙ eu) refl
+    left = cond-false (not (bandColumnsFit c) || ltb mostTokenBytes (length bytes)) 2 _ _ (sym pu ∙ eu) refl
 
     numbers : DoneOrBroken k
     unfolding k
     numbers =
         known (named 32 (c .mask)) (answerIn (readTokens bytes))
-        (read-numbers bytes (borrow.Author.Tests.ltb-false 1024 (length bytes) (neither (not (bandColumnsFit c)) (ltb 1024 (length bytes)) (sym pu ∙ eu) .1)))
+        (read-numbers bytes (borrow.Author.Tests.ltb-false mostTokenBytes (length bytes) (neither (not (bandColumnsFit c)) (ltb mostTokenBytes (length bytes)) (sym pu ∙ eu) .1)))
 
     is-k : numberOf (r .answer) ≡ k
     unfolding k

@@ -3,6 +3,7 @@ ghost use mathlib.Core.Bool.{not, _||_};
 ghost use mathlib.Core.Path.{_≡_};
 ghost use lib.Dec.{ltb};
 ghost use lib.ListN.{length};
+ghost use Rattle.token_reader.specs.Read.{mostTokenBytes};
 ghost use Rattle.band_columns.specs.Sets.{columnsFit};
 ghost use Rattle.row_set.specs.Forming.{SetsRow};
 ghost use Rattle.row_set.specs.Parts.{TokensFor, Forms};
@@ -20,7 +21,7 @@ pub struct RowAnswer {
 
 // Whether a field of a band Set exceeds its range.
 fn unfit(columns: BandColumns, tokens: &[u8]) -> bool
-    ensures { λ r. ⌜ r ≡ (not (columnsFit columns) || ltb 1024 (length (now (tokens .entry)))) ⌝ }
+    ensures { λ r. ⌜ r ≡ (not (columnsFit columns) || ltb mostTokenBytes (length (now (tokens .entry)))) ⌝ }
 {
     if columns.fit() {
         return token_reader::MOST_BYTES < tokens.len();

@@ -18,7 +18,7 @@ use Rattle.condition.proofs.Condition.{condition-3}
 use Rattle.answer.specs.declared.Answer.the-variants.{BadScript}
 use Rattle.script.specs.declared.Checked.{Checked}
 use Rattle.script.specs.declared.Checked.the-variants as C
-use Rattle.script.specs.Whole.{Script, readScript, checkedIn, checkOf}
+use Rattle.script.specs.Whole.{mostScriptBytes, Script, readScript, checkedIn, checkOf}
 use Rattle.script.proofs.Few.{few-events}
 use Rattle.run.specs.declared.Ran.{Ran}
 use Rattle.run.specs.Outcome.{outcome, outcomeIn, refusedRun, runEvents, runScript}
@@ -92,21 +92,21 @@ module _ (s : List ℕ) (most : ℕ) (answers stops : List ℕ) (k : Checked) (e
 -- ---- two runs
 
 -- a script has at most 32,766 events
-whole : (s : List ℕ) (r : Ran) (capacity bands sensors : ℕ) (es : List Event) → RunWhole s r capacity bands sensors es → RanWhole s 65536 r capacity bands sensors es
+whole : (s : List ℕ) (r : Ran) (capacity bands sensors : ℕ) (es : List Event) → RunWhole s r capacity bands sensors es → RanWhole s mostScriptBytes r capacity bands sensors es
 whole s r capacity bands sensors es w =
     record { reads = w .reads; all = omega (arith, few-events s capacity bands sensors es (w .reads)); done = w .done }
 
 pub two-hold : (s t : List ℕ) (answers stops answers2 stops2 : List ℕ) (r q : Ran) (answers' stops' answers2' stops2' : List ℕ)
-    → outcomeIn r answers' stops' ≡ runScript (readScript s) 65536 answers stops → outcomeIn q answers2' stops2' ≡ runScript (readScript t) 65536 answers2 stops2
+    → outcomeIn r answers' stops' ≡ runScript (readScript s) mostScriptBytes answers stops → outcomeIn q answers2' stops2' ≡ runScript (readScript t) mostScriptBytes answers2 stops2
     → Condition3OfTwo s t (record { first = r; second = q }) answers' answers2'
 two-hold s t answers stops answers2 stops2 r q answers' stops' answers2' stops2' o p = record {
   isolation = λ capacity bands sensors es capacity' bands' sensors' fs w v h band b c.
-      let x = holds s 65536 answers stops r answers' stops' o .isolation t capacity bands sensors es capacity' bands' sensors' fs (whole s r capacity bands sensors es w) (v .reads) h band b c in
+      let x = holds s mostScriptBytes answers stops r answers' stops' o .isolation t capacity bands sensors es capacity' bands' sensors' fs (whole s r capacity bands sensors es w) (v .reads) h band b c in
       let y = whole t q capacity' bands' sensors' fs v in
-      let d = ended t 65536 answers2 stops2 q answers2' stops2' p capacity' bands' sensors' fs y .drive-is in
+      let d = ended t mostScriptBytes answers2 stops2 q answers2' stops2' p capacity' bands' sensors' fs y .drive-is in
       record {
         row = x .row ∙ sym (ap (λ (z : Drive). rowAt z band) d);
         value = x .value ∙ sym (ap (λ (z : Drive). valueAt z band) d);
-        own = x .own ∙ sym (own-are t 65536 answers2 stops2 q answers2' stops2' p band capacity' bands' sensors' fs y);
+        own = x .own ∙ sym (own-are t mostScriptBytes answers2 stops2 q answers2' stops2' p band capacity' bands' sensors' fs y);
       };
 }

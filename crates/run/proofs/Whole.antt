@@ -20,7 +20,7 @@ use Rattle.script.specs.declared.HeaderRead.the-variants as H
 use Rattle.script.specs.declared.Checked.{Checked}
 use Rattle.script.specs.declared.Checked.the-variants as C
 use Rattle.script.specs.Events.{Events, events, badFrom}
-use Rattle.script.specs.Whole.{Header, header, noHeader, fieldHeader, headerIn, headerAt, Script, accepted, bad, withEvents, withHeader, readScript, reads, badAt, checkedIn, checkScript, checkOf}
+use Rattle.script.specs.Whole.{mostScriptBytes, Header, header, noHeader, fieldHeader, headerIn, headerAt, Script, accepted, bad, withEvents, withHeader, readScript, reads, badAt, checkedIn, checkScript, checkOf}
 use Rattle.script.specs.Parts.{eventsFrom}
 use Rattle.run.specs.declared.Ran.{Ran}
 use Rattle.in_place.specs.FirstEvents.{firstEvents, after, eventsRun, firstEventsRun}
@@ -95,7 +95,7 @@ head-fits s a b c n h = first (numberAt s 0) h
 
 pub accepted-is : (s : List ℕ) (capacity bands sensors : ℕ) (es : List Event) → readScript s ≡ accepted capacity bands sensors es → Accepted s capacity bands sensors es
 unfolding readScript
-accepted-is s capacity bands sensors es q = go (ltb 65536 (length s)) (headerAt s) refl q
+accepted-is s capacity bands sensors es q = go (ltb mostScriptBytes (length s)) (headerAt s) refl q
   where
     all : (a b c n : ℕ) → headerAt s ≡ header a b c n → (o : Events) → eventsFrom s n ≡ o → withEvents a b c o ≡ accepted capacity bands sensors es → Accepted s capacity bands sensors es
     all a b c n h (events fs) p q =

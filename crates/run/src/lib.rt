@@ -1,6 +1,6 @@
 // The run of a script (document 01, 'Script'): the events of a script, one after the other, from the fresh drive of its header.
 ghost use mathlib.Core.Path.{_≡_};
-ghost use Rattle.script.specs.Whole.{readScript};
+ghost use Rattle.script.specs.Whole.{mostScriptBytes, readScript};
 ghost use Rattle.run.specs.Condition3.{Condition3OfRun, Condition3OfTwo};
 ghost use Rattle.run.specs.Outcome.{outcomeIn, runScript};
 ghost use Rattle.run.specs.Parts.{fewerOf, Refuses, RunsFirst};
@@ -9,8 +9,8 @@ use drive::Drive;
 use script::Checked;
 use script::HeaderRead;
 
-// More events than any script has: so many are all of them.
-pub const WHOLE: u64 = 65_536;
+// As many events as a script may have bytes: so many are all of them.
+pub const WHOLE: u64 = script::MOST_BYTES as u64;
 
 // The most events of a script: each takes two bytes at least, after a header of three.
 pub const MOST_EVENTS: usize = 32_766;
@@ -101,8 +101,8 @@ pub fn run_two(
     answers2: &mut [u8],
     stops2: &mut [u8],
 ) -> RanTwo
-    ensures { λ r. ⌜ outcomeIn (r .first) (now (answers .exit)) (now (stops .exit)) ≡ runScript (readScript (now (first .entry))) 65536 (now (answers .entry)) (now (stops .entry)) ⌝ }
-    ensures second { λ r. ⌜ outcomeIn (r .second) (now (answers2 .exit)) (now (stops2 .exit)) ≡ runScript (readScript (now (second .entry))) 65536 (now (answers2 .entry)) (now (stops2 .entry)) ⌝ }
+    ensures { λ r. ⌜ outcomeIn (r .first) (now (answers .exit)) (now (stops .exit)) ≡ runScript (readScript (now (first .entry))) mostScriptBytes (now (answers .entry)) (now (stops .entry)) ⌝ }
+    ensures second { λ r. ⌜ outcomeIn (r .second) (now (answers2 .exit)) (now (stops2 .exit)) ≡ runScript (readScript (now (second .entry))) mostScriptBytes (now (answers2 .entry)) (now (stops2 .entry)) ⌝ }
     ensures condition { λ r. ⌜ Condition3OfTwo (now (first .entry)) (now (second .entry)) r (now (answers .exit)) (now (answers2 .exit)) ⌝ }
 {
     let one = run(first, WHOLE, answers, stops);

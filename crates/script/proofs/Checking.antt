@@ -19,7 +19,7 @@ use Rattle.script.specs.declared.HeaderRead.the-variants as H
 use Rattle.script.specs.declared.Checked.{Checked}
 use Rattle.event_reader.specs.Fields.{Parsed, event, broken, parsedIn, tokensAt, eventAt}
 use Rattle.script.specs.Events.{Events, events, badFrom, before, andThen}
-use Rattle.script.specs.Whole.{Header, noHeader, fieldHeader, headerIn, headerAt, withEvents, withHeader, readScript, Check, reads, badAt, checkedIn, checkEvents, checkFrom, checkScript, checkOf, ReadsOn}
+use Rattle.script.specs.Whole.{mostScriptBytes, Header, noHeader, fieldHeader, headerIn, headerAt, withEvents, withHeader, readScript, Check, reads, badAt, checkedIn, checkEvents, checkFrom, checkScript, checkOf, ReadsOn}
 use Rattle.script.specs.Parts.{eventsIn, eventsFrom}
 use Rattle.event_reader.proofs.Progress.{event-past}
 
@@ -110,14 +110,14 @@ check-done s start at count i h =
 
 -- ---- the whole
 
-pub check-overlong : (s : List ℕ) → 65536 < length s → badAt 0 ≡ checkOf s
+pub check-overlong : (s : List ℕ) → mostScriptBytes < length s → badAt 0 ≡ checkOf s
 unfolding checkOf readScript
-check-overlong s h = ap checkScript (cond-true (ltb 65536 (length s)) _ _ _ (lt-ltb 65536 (length s) h) refl)
+check-overlong s h = ap checkScript (cond-true (ltb mostScriptBytes (length s)) _ _ _ (lt-ltb mostScriptBytes (length s) h) refl)
 
-module _ (s : List ℕ) (h : length s ≤ 65536) (r : HeaderRead) (e : headerIn r ≡ headerAt s) where
+module _ (s : List ℕ) (h : length s ≤ mostScriptBytes) (r : HeaderRead) (e : headerIn r ≡ headerAt s) where
   with-header : checkScript (withHeader s (headerIn r)) ≡ checkOf s
   unfolding checkOf readScript
-  with-header = ap checkScript (cond-false (ltb 65536 (length s)) _ _ _ (le-ltb 65536 (length s) h) (ap (withHeader s) e))
+  with-header = ap checkScript (cond-false (ltb mostScriptBytes (length s)) _ _ _ (le-ltb mostScriptBytes (length s) h) (ap (withHeader s) e))
 
   pub check-no-header : r ≡ H.Bad → badAt 0 ≡ checkOf s
   check-no-header q = sym (ap (λ (x : HeaderRead). checkScript (withHeader s (headerIn x))) q) ∙ with-header

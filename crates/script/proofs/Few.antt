@@ -12,7 +12,7 @@ use Rattle.drive.specs.State.{headerFits}
 use Rattle.drive.specs.Events.{Event}
 use Rattle.event_reader.specs.Fields.{Parsed, event, broken, eventAt}
 use Rattle.script.specs.Events.{Events, events, badFrom, before, andThen}
-use Rattle.script.specs.Whole.{Header, header, noHeader, fieldHeader, headerAt, accepted, bad, withEvents, withHeader, readScript}
+use Rattle.script.specs.Whole.{mostScriptBytes, mostEvents, Header, header, noHeader, fieldHeader, headerAt, accepted, bad, withEvents, withHeader, readScript}
 use Rattle.script.specs.Parts.{eventsIn, eventsFrom}
 use Rattle.event_reader.proofs.Bounds.{NumberIn, number-at}
 use Rattle.event_reader.proofs.Progress.{event-within}
@@ -61,11 +61,11 @@ header-within s a b c n h = first (numberAt s 0) (number-at s 0) h
     first (found x m) i q = second x m (i .0) (numberAt s m) (number-at s m) q
     first none i q = let w : _≡_ {A = ℕ} 0 1 = cc in absurd (omega arith)
 
-pub few-events : (s : List ℕ) (capacity bands sensors : ℕ) (es : List Event) → readScript s ≡ accepted capacity bands sensors es → length es ≤ 32766
+pub few-events : (s : List ℕ) (capacity bands sensors : ℕ) (es : List Event) → readScript s ≡ accepted capacity bands sensors es → length es ≤ mostEvents
 unfolding readScript eventsFrom
-few-events s capacity bands sensors es q = go (ltb 65536 (length s)) refl (headerAt s) refl q
+few-events s capacity bands sensors es q = go (ltb mostScriptBytes (length s)) refl (headerAt s) refl q
   where
-    all : (a b c n : ℕ) → length s ≤ 65536 → headerAt s ≡ header a b c n → (o : Events) → eventsFrom s n ≡ o → withEvents a b c o ≡ accepted capacity bands sensors es → length es ≤ 32766
+    all : (a b c n : ℕ) → length s ≤ mostScriptBytes → headerAt s ≡ header a b c n → (o : Events) → eventsFrom s n ≡ o → withEvents a b c o ≡ accepted capacity bands sensors es → length es ≤ mostEvents
     all a b c n l h (events fs) p q =
         let e : fs ≡ es = cc in
         let w = header-within s a b c n h in
@@ -73,7 +73,7 @@ few-events s capacity bands sensors es q = go (ltb 65536 (length s)) refl (heade
         rw (← e) (omega (arith, l, w .0, m))
     all a b c n l h (badFrom x) p q = let w : _≡_ {A = ℕ} 0 1 = cc in absurd (omega arith)
 
-    go : (t : Bool) → ltb 65536 (length s) ≡ t → (h : Header) → headerAt s ≡ h → cond t (bad 0) (withHeader s h) ≡ accepted capacity bands sensors es → length es ≤ 32766
+    go : (t : Bool) → ltb mostScriptBytes (length s) ≡ t → (h : Header) → headerAt s ≡ h → cond t (bad 0) (withHeader s h) ≡ accepted capacity bands sensors es → length es ≤ mostEvents
     go true l h p q = let w : _≡_ {A = ℕ} 0 1 = cc in absurd (omega arith)
-    go false l (header a b c n) p q = let j = ltb-false 65536 (length s) l in all a b c n (omega (arith, j)) p (eventsFrom s n) refl q
+    go false l (header a b c n) p q = let j = ltb-false mostScriptBytes (length s) l in all a b c n (omega (arith, j)) p (eventsFrom s n) refl q
     go false l noHeader p q = let w : _≡_ {A = ℕ} 0 1 = cc in absurd (omega arith)

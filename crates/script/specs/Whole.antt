@@ -49,6 +49,10 @@ pub data Script : Type 0 where
 abbrev pub mostScriptBytes : ℕ
 mostScriptBytes = 65536
 
+-- the most events of a script: each takes two bytes at least, after a header of three (theorem `few-events`)
+abbrev pub mostEvents : ℕ
+mostEvents = 32766
+
 abbrev pub withEvents : ℕ → ℕ → ℕ → Events → Script
 withEvents capacity bands sensors (events es) = accepted capacity bands sensors es
 withEvents capacity bands sensors (badFrom place) = bad place

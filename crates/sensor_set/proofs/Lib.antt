@@ -3,3 +3,4 @@ pub mod Fits
 pub mod Sets
 pub mod Keeping
 pub mod Refused
+pub mod Rules

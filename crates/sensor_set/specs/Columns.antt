@@ -9,7 +9,7 @@ use Rattle.sensor.specs.declared.single.Sensor.{Sensor}
 use Rattle.sensor_set.specs.declared.SensorColumns.{SensorColumns}
 use Rattle.sensor_set.specs.declared.SensorEvent.{SensorEvent}
 use Rattle.sensor_set.specs.declared.SensorEvent.the-variants as E
-use Rattle.sensor.specs.Single.{greatestNumber, greatestFraction, readingAnswer, readingOf, enableOf, disableOf}
+use Rattle.sensor.specs.Single.{greatestNumber, greatestFraction, readingRefusals, readingOf, enableOf, disableOf}
 
 -- the masks of seven bits are those below
 abbrev pub sensorMasks : ℕ
@@ -62,9 +62,12 @@ setOf c s = cond (columnsFit c) (switchedOf c (storedOf c s)) s
 
 -- ---- the events on one sensor that is there: a reading, and a Set
 
+abbrev pub sensorRefusals : SensorEvent → List Refusal
+sensorRefusals (E.Reading v) = readingRefusals v
+sensorRefusals (E.Set c) = setRefusals c
+
 abbrev pub sensorAnswer : SensorEvent → ℕ
-sensorAnswer (E.Reading v) = readingAnswer v
-sensorAnswer (E.Set c) = setAnswer c
+sensorAnswer x = firstOf (sensorRefusals x)
 
 abbrev pub sensorAfter : SensorEvent → Sensor → Sensor
 sensorAfter (E.Reading v) = readingOf v

@@ -45,25 +45,25 @@ impl SensorColumns {
         if SensorColumns::MASKS <= mask {
             return false;
         }
-        if !in_range(mask, 1, self.enabled, 1) {
+        if !base::in_range(mask, 1, self.enabled, 1) {
             return false;
         }
-        if !in_range(mask, 2, self.on_threshold, SensorColumns::NUMBER) {
+        if !base::in_range(mask, 2, self.on_threshold, SensorColumns::NUMBER) {
             return false;
         }
-        if !in_range(mask, 4, self.on_fraction, SensorColumns::FRACTION) {
+        if !base::in_range(mask, 4, self.on_fraction, SensorColumns::FRACTION) {
             return false;
         }
-        if !in_range(mask, 8, self.on_timeout, SensorColumns::NUMBER) {
+        if !base::in_range(mask, 8, self.on_timeout, SensorColumns::NUMBER) {
             return false;
         }
-        if !in_range(mask, 16, self.off_threshold, SensorColumns::NUMBER) {
+        if !base::in_range(mask, 16, self.off_threshold, SensorColumns::NUMBER) {
             return false;
         }
-        if !in_range(mask, 32, self.off_fraction, SensorColumns::FRACTION) {
+        if !base::in_range(mask, 32, self.off_fraction, SensorColumns::FRACTION) {
             return false;
         }
-        in_range(mask, 64, self.off_timeout, SensorColumns::NUMBER)
+        base::in_range(mask, 64, self.off_timeout, SensorColumns::NUMBER)
     }
 }
 
@@ -92,7 +92,7 @@ fn store(one: Sensor, columns: SensorColumns) -> Sensor
 fn switch(one: Sensor, columns: SensorColumns) -> Sensor
     ensures { λ r. ⌜ r ≡ switchedOf columns one ⌝ }
 {
-    if names(columns.mask, 1) {
+    if base::names(columns.mask, 1) {
         if columns.enabled == 1 {
             return one.enable();
         }
@@ -119,32 +119,12 @@ pub fn set(one: Sensor, columns: SensorColumns) -> SensorAnswer
     }
 }
 
-// Whether the mask names the column of a bit.
-fn names(mask: u64, bit: u64) -> bool
-    requires { ⌜ 0 < bit ⌝ }
-    ensures { λ r. ⌜ r ≡ named bit mask ⌝ }
-{
-    mask / bit % 2 == 1
-}
-
-// Whether a value is at most `most`, where the mask names it.
-fn in_range(mask: u64, bit: u64, value: u64, most: u64) -> bool
-    requires { ⌜ 0 < bit ⌝ }
-    ensures { λ r. ⌜ r ≡ within most (named bit mask) value ⌝ }
-{
-    if names(mask, bit) {
-        return value <= most;
-    }
-    true
-}
-
 // A column after a Set: the value where the mask names it, else as it was.
 fn column(mask: u64, bit: u64, value: u64, former: u32) -> u32
-    requires { ⌜ 0 < bit ⌝ }
     requires { ⌜ within greatestNumber (named bit mask) value ≡ true ⌝ }
     ensures { λ r. ⌜ r ≡ cond (named bit mask) value former ⌝ }
 {
-    if names(mask, bit) {
+    if base::names(mask, bit) {
         return value as u32;
     }
     former

@@ -15,7 +15,7 @@ use Rattle.expression.specs.Elements.{element, PartFits, AllFit}
 use Rattle.token_reader.specs.declared.Head.{Head}
 use Rattle.token_reader.specs.declared.Head.the-variants.{Is, Broken}
 use Rattle.token_reader.specs.Format.{Bytes, fourBytes, referencePrefix, operatorPrefix, startsWith, referenceIn, operatorIn, partIn, widthOf, isEnd}
-use Rattle.token_reader.specs.Read.{TokenOutcome, elements, refusal, before, andThen, readElements, readList, readTokens}
+use Rattle.token_reader.specs.Read.{mostTokenBytes, TokenOutcome, elements, refusal, before, andThen, readElements, readList, readTokens}
 
 -- a claim about what a choice gave, from either arm
 pub by-arm : {A P : Type 0} (t : Bool) (x y r : A) → cond t x y ≡ r → (t ≡ true → x ≡ r → P) → (t ≡ false → y ≡ r → P) → P
@@ -105,6 +105,6 @@ list-fits bytes es k h =
 pub read-fits : (bytes : List ℕ) (es : List Element) → Bytes bytes → readTokens bytes ≡ elements es → (length es ≤ 32) × AllFit es
 unfolding readTokens
 read-fits bytes es k h =
-    by-arm (ltb 1024 (length bytes)) (refusal 2) (readList bytes) (elements es) h
+    by-arm (ltb mostTokenBytes (length bytes)) (refusal 2) (readList bytes) (elements es) h
     (λ t e. not-refused 2 es e)
     (λ t e. list-fits bytes es k e)

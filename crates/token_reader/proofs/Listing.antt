@@ -19,7 +19,7 @@ use Rattle.token_reader.specs.declared.Head.{Head}
 use Rattle.token_reader.specs.declared.Head.the-variants.{Is, Broken}
 use Rattle.token_reader.specs.declared.Tokens.{Tokens}
 use Rattle.token_reader.specs.Format.{startsWith, partIn, widthOf, isEnd}
-use Rattle.token_reader.specs.Read.{TokenOutcome, elements, refusal, before, readElements, readList, readTokens, Tells}
+use Rattle.token_reader.specs.Read.{mostTokenBytes, TokenOutcome, elements, refusal, before, readElements, readList, readTokens, Tells}
 use Rattle.token_reader.specs.Parts.{refused}
 
 -- a refusal that the code makes tells an outcome of the same number
@@ -153,14 +153,14 @@ module _ (bytes : List ℕ) (cells : List Element) (count at : ℕ) (r : Reading
 
 -- what `read` tests before the list: the length, and the first byte
 
-pub too-many : (bytes : List ℕ) → 1024 < length bytes → readTokens bytes ≡ refusal 2
+pub too-many : (bytes : List ℕ) → mostTokenBytes < length bytes → readTokens bytes ≡ refusal 2
 unfolding readTokens
-too-many bytes h = rw (lt-ltb 1024 (length bytes) h)
+too-many bytes h = rw (lt-ltb mostTokenBytes (length bytes) h)
 
-module _ (bytes : List ℕ) (h : length bytes ≤ 1024) where
+module _ (bytes : List ℕ) (h : length bytes ≤ mostTokenBytes) where
   pub few : readTokens bytes ≡ readList bytes
   unfolding readTokens
-  few = rw (le-ltb 1024 (length bytes) h)
+  few = rw (le-ltb mostTokenBytes (length bytes) h)
 
   pub no-start : (getD bytes 0 0 ≡ 0xF0 → ⊥) → readTokens bytes ≡ refusal 3
   unfolding readList

@@ -12,7 +12,7 @@ use Rattle.expression.specs.Elements.{element}
 use Rattle.token_reader.specs.declared.Head.{Head}
 use Rattle.token_reader.specs.declared.Head.the-variants.{Is, Broken}
 use Rattle.token_reader.specs.Format.{partIn, widthOf, isEnd}
-use Rattle.token_reader.specs.Read.{TokenOutcome, elements, refusal, before, andThen, readElements, readList, readTokens, answerIn}
+use Rattle.token_reader.specs.Read.{mostTokenBytes, TokenOutcome, elements, refusal, before, andThen, readElements, readList, readTokens, answerIn}
 
 abbrev pub DoneOrBroken : ℕ → Type 0
 DoneOrBroken n = (n ≡ 0) ⊎ ((n ≡ 3) ⊎ (n ≡ 4))
@@ -38,8 +38,8 @@ elements-numbers (suc room) bytes =
     go more (Is p) = one-more (element p) (readElements room (drop (widthOf p) bytes)) (more (drop (widthOf p) bytes))
     go more Broken = inr (inl refl)
 
-pub read-numbers : (bytes : List ℕ) → length bytes ≤ 1024 → DoneOrBroken (answerIn (readTokens bytes))
+pub read-numbers : (bytes : List ℕ) → length bytes ≤ mostTokenBytes → DoneOrBroken (answerIn (readTokens bytes))
 unfolding readTokens readList
 read-numbers bytes h =
-    rw (le-ltb 1024 (length bytes) h)
+    rw (le-ltb mostTokenBytes (length bytes) h)
     (either (eqb (getD bytes 0 0) 0xF0) (readElements 32 (drop 1 bytes)) (refusal 3) (elements-numbers 32 (drop 1 bytes)) (inr (inl refl)))

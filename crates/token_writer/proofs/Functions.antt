@@ -16,7 +16,7 @@ use Rattle.token_reader.specs.declared.Head.{Head}
 use Rattle.token_reader.specs.declared.Head.the-variants.{Is, Broken}
 use Rattle.token_reader.specs.declared.Tokens.{Tokens}
 use Rattle.token_reader.specs.Format.{Bytes, widthOf, partIn, isEnd}
-use Rattle.token_reader.specs.Read.{TokenOutcome, elements, refusal, before, andThen, readElements, readList, readTokens, answerIn, expressionIn, Reads}
+use Rattle.token_reader.specs.Read.{mostTokenBytes, TokenOutcome, elements, refusal, before, andThen, readElements, readList, readTokens, answerIn, expressionIn, Reads}
 use Rattle.token_reader.proofs.Fits.{read-fits}
 use Rattle.token_writer.specs.declared.Written.{Written}
 use Rattle.token_writer.specs.Write.{codesOf, bytesOf, neededFor, writeAnswer, Writes}
@@ -86,7 +86,7 @@ elements-told (suc room) bytes = either (isEnd bytes) _ _ tt (then-told bytes (p
 told : (bytes : List ℕ) → Told (readTokens bytes)
 unfolding readTokens readList
 told bytes =
-    either (ltb 1024 (length bytes)) (refusal 2) _ (omega arith)
+    either (ltb mostTokenBytes (length bytes)) (refusal 2) _ (omega arith)
     (either (eqb (getD bytes 0 0) 0xF0) _ (refusal 3) (elements-told 32 (drop 1 bytes)) (omega arith))
 
 -- an answer of 0 comes with elements

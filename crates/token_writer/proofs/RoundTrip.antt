@@ -28,7 +28,7 @@ use Rattle.token_reader.specs.Format.{
   partIn,
   isEnd,
 }
-use Rattle.token_reader.specs.Read.{TokenOutcome, elements, refusal, before, andThen, readElements, readList, readTokens}
+use Rattle.token_reader.specs.Read.{mostTokenBytes, TokenOutcome, elements, refusal, before, andThen, readElements, readList, readTokens}
 use Rattle.token_reader.proofs.Listing.{width-most, few}
 use Rattle.token_reader.proofs.Fits.{by-arm, not-broken, not-refused, bytes-drop}
 use Rattle.token_writer.specs.Write.{partOf, codeOf, elementsOf, codesOf, codesFit, partBytes, bodyOf, bytesOf, neededFor}
@@ -242,7 +242,7 @@ list-is (b ∷ bytes) es k h =
 pub written-read : (bytes : List ℕ) (es : List Element) → Bytes bytes → readTokens bytes ≡ elements es → bytesOf es ≡ bytes
 unfolding readTokens
 written-read bytes es k h =
-    by-arm (ltb 1024 (length bytes)) (refusal 2) (readList bytes) (elements es) h
+    by-arm (ltb mostTokenBytes (length bytes)) (refusal 2) (readList bytes) (elements es) h
     (λ t e. not-refused 2 es e)
     (λ t e. list-is bytes es k e)
 

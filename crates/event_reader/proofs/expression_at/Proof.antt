@@ -3,6 +3,9 @@ use borrow.Author.Needs.{needs}
 use Rattle.event_reader.proofs.expression_at.Statement.{statement}
 use Rattle.event_reader.proofs.expression_at.Tie as tie
 
+names-requires : tie.Need-names-requires
+names-requires c κs = search needs
+
 number-at-requires : tie.Need-number-at-requires
 number-at-requires c κs = search needs
 
@@ -27,8 +30,8 @@ sub-if4 c = search needs
 returns-4 : tie.Need-returns-4
 returns-4 c = search expression-cut
 
-add-t13 : tie.Need-add-t13
-add-t13 c = search needs
+add-t11 : tie.Need-add-t11
+add-t11 c = search needs
 
 returns-5 : tie.Need-returns-5
 returns-5 c = search expression-is
@@ -40,6 +43,7 @@ pub expression-at-spec : {M : Type 1} → statement M
 expression-at-spec =
     tie.close
     (tie.spec
+    names-requires
     number-at-requires
     enum-known-size
     enum-told
@@ -48,6 +52,6 @@ expression-at-spec =
     returns-3
     sub-if4
     returns-4
-    add-t13
+    add-t11
     returns-5
     returns-6)

@@ -93,8 +93,8 @@ mul-new-2 c = search (row-scaled, needs)
 element-set-from-new-2 : tie.Need-element-set-from-new-2 Inv-loop2 μ-loop2 Inv-loop μ-loop
 element-set-from-new-2 c = search row-placed
 
-either-requires : tie.Need-either-requires Inv-loop2 μ-loop2 Inv-loop μ-loop
-either-requires c κs = search needs
+or-requires : tie.Need-or-requires Inv-loop2 μ-loop2 Inv-loop μ-loop
+or-requires c κs = search needs
 
 enum-known-change-3 : tie.Need-enum-known-change-3 Inv-loop2 μ-loop2 Inv-loop μ-loop
 enum-known-change-3 c = search needs
@@ -138,8 +138,8 @@ enum-known-change-6 c = search needs
 is-reset-requires : tie.Need-is-reset-requires Inv-loop2 μ-loop2 Inv-loop μ-loop
 is-reset-requires c κs = search needs
 
-both-requires : tie.Need-both-requires Inv-loop2 μ-loop2 Inv-loop μ-loop
-both-requires c κs = search needs
+and-requires : tie.Need-and-requires Inv-loop2 μ-loop2 Inv-loop μ-loop
+and-requires c κs = search needs
 
 conditions-requires-2 : tie.Need-conditions-requires-2 Inv-loop2 μ-loop2 Inv-loop μ-loop
 conditions-requires-2 c κs = search needs
@@ -214,7 +214,7 @@ loop-again c =
     (λ w. stored-as refl (nothing-stored _ (g .sofar .kept) _ _ _ (next-says g (c .before .before .before .change-of .ensures) (w .1 .given .1)) _ _ (g .sofar .flag) (w .3 .ensures)) (w .4) (w .5) (w .6) (w .7) (w .8) (w .9))))))))
     (c .before .before .match2 .came) in
     ⊎-elim (λ w. let l = stored-long (g .sofar .kept) h in run-again g (finished-ran l h (w .2 .ensures) (w .3 .inv) (w .4 .left)) (finished-flag l h (w .2 .ensures) (w .3 .inv) (w .4 .left)) (w .5) (w .6))
-    (λ w. run-again g (stored-idle h (c .before .both .ensures) (w .0 .left)) (h .flag) (w .1) (w .2))
+    (λ w. run-again g (stored-idle h (c .before .and .ensures) (w .0 .left)) (h .flag) (w .1) (w .2))
     (c .if2 .came)
 
 same-length-3 : tie.Need-same-length-3 Inv-loop2 μ-loop2 Inv-loop μ-loop
@@ -255,7 +255,7 @@ run-settled-spec =
     on-row-requires
     mul-new-2
     element-set-from-new-2
-    either-requires
+    or-requires
     enum-known-change-3
     by-stops-requires
     elapse-requires
@@ -270,7 +270,7 @@ run-settled-spec =
     transfer-number-requires
     enum-known-change-6
     is-reset-requires
-    both-requires
+    and-requires
     conditions-requires-2
     loop2-holds
     mul-row

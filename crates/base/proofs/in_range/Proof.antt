@@ -1,7 +1,7 @@
 use Rattle.base.proofs.Columns.{within-named, within-free}
 use borrow.Author.Needs.{needs}
-use Rattle.band_columns.proofs.in_range.Statement.{statement}
-use Rattle.band_columns.proofs.in_range.Tie as tie
+use Rattle.base.proofs.in_range.Statement.{statement}
+use Rattle.base.proofs.in_range.Tie as tie
 
 names-requires : tie.Need-names-requires
 names-requires c κs = search needs

@@ -1,0 +1,10 @@
+-- The rules of the sensor part, for worked examples above it that the checker computes: to unfold this is to unfold them all.
+use mathlib.Core.Bool.{Bool, true}
+use Rattle.phases.specs.Phases.{moveOf}
+use Rattle.sensor.specs.Level.{levelRule}
+use Rattle.sensor.specs.Single.{freshSensor, judgeOf, turnedTo, readingOf, enableOf, disableOf, powerCycleOf, afterCause, sensorTick}
+use Rattle.sensor_set.specs.Columns.{columnsFit, storedOf, switchedOf, setOf}
+
+unfoldable pub sensor-rules : Bool
+unfolding moveOf levelRule freshSensor judgeOf turnedTo readingOf enableOf disableOf powerCycleOf afterCause sensorTick columnsFit storedOf switchedOf setOf
+sensor-rules = true
