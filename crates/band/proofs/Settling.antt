@@ -1,13 +1,14 @@
 -- Laws of a row's sides, settling and resets.
 use mathlib.Core.Path.{_≡_, refl, sym, ap, ap₂, _∙_}
-use Prim.Native.Nat.{ℕ, zero, suc}
+use Prim.Native.Nat.{ℕ, zero, suc, _<_}
+use native.Mathlib.Omega.{arith}
 use mathlib.Core.Bool.{Bool, true, false, not, cond, _&&_, _||_, false≢true}
 use mathlib.Core.List.{List}
 use Rattle.base.proofs.Cases.{cond-true, neither}
 use Rattle.band.specs.declared.Side.{Side}
 use Rattle.band.specs.declared.Side.the-variants.{Read, Write}
 use Rattle.band.specs.declared.Row.{Row}
-use Rattle.band.specs.Rows.{freshRow, closedOn, valueIn, withLocked, lockUnder, settleRow, inSet, resetRow}
+use Rattle.band.specs.Rows.{lastResetType, freshRow, closedOn, valueIn, withLocked, lockUnder, settleRow, inSet, resetRow}
 use Rattle.band.specs.Parts.{lockableOn, isLockable, locksBy}
 
 -- ---- what the code's arms come to
@@ -44,6 +45,10 @@ no-type set zero a b c = absurd (a refl)
 no-type set (suc zero) a b c = absurd (b refl)
 no-type set (suc (suc zero)) a b c = absurd (c refl)
 no-type set (suc (suc (suc type))) a b c = refl
+
+-- a type above the last is in no set
+pub past-types : (set type : ℕ) → lastResetType < type → false ≡ inSet set type
+past-types set type h = no-type set type (λ e. omega (arith, h, e)) (λ e. omega (arith, h, e)) (λ e. omega (arith, h, e))
 
 pub closed-read : (row : Row) (side : Side) (t : Bool) → side ≡ Read → t ≡ (row .«read_lock_enabled» && row .«read_locked») → t ≡ closedOn side row
 closed-read row side t e q = q ∙ ap (λ (s : Side). closedOn s row) (sym e)

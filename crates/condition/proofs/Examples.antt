@@ -88,9 +88,9 @@ lockRead = bandOn 0 4 1 0 []
 abbrev unlockRead : Event
 unlockRead = bandOn 0 4 0 0 []
 
--- an unlock that is refused with 2, for its LockOnReset of 8
+-- an unlock that is refused with 2, for its LockOnReset of 256
 abbrev badUnlock : Event
-badUnlock = bandOn 0 20 0 8 []
+badUnlock = bandOn 0 20 0 256 []
 
 -- what the moments say of a side, and what the run leaves
 abbrev told : Side → ℕ → List Event → Bool × Bool
@@ -121,7 +121,7 @@ record Worked : Type 0 where
   refused : told Read 0 (lockRead ∷ badUnlock ∷ []) ≡ (true, true)
   -- a refused Set names what its expression refers to; a Set that does not name the expression names nothing, and so does one whose bytes
   -- are no tokens
-  refused-names : compared 1 (bandOn 1 48 0 8 rowZero ∷ reading 0 7 ∷ []) ≡ bandOn 1 48 0 8 rowZero ∷ reading 0 7 ∷ []
+  refused-names : compared 1 (bandOn 1 48 0 256 rowZero ∷ reading 0 7 ∷ []) ≡ bandOn 1 48 0 256 rowZero ∷ reading 0 7 ∷ []
   unnamed : compared 1 (bandOn 1 16 0 7 rowZero ∷ reading 0 7 ∷ []) ≡ bandOn 1 16 0 7 rowZero ∷ []
   no-tokens : compared 1 (bandOn 1 32 0 0 (0 ∷ rowZero) ∷ reading 0 7 ∷ []) ≡ bandOn 1 32 0 0 (0 ∷ rowZero) ∷ []
 

@@ -12,7 +12,7 @@ use Rattle.base.specs.Lists.{any}
 use Rattle.base.specs.Columns.{within}
 use Rattle.base.specs.Rows.{modify}
 use Rattle.base.specs.Ticks.{ticks}
-use Rattle.base.proofs.Cases.{and-left, and-right, neither}
+use Rattle.base.proofs.Cases.{neither}
 use Rattle.base.proofs.Refusals.{appliesAt}
 use Rattle.base.proofs.Rows.{modify-same, modify-other}
 use Rattle.token_reader.specs.Read.{mostTokenBytes}
@@ -22,6 +22,7 @@ use Rattle.band.specs.declared.Row.{Row}
 use Rattle.band_columns.specs.declared.BandColumns.{BandColumns}
 use Rattle.band.specs.Rows.{freshRow, enabledOn, lockedOn, lockUnder, settleRow, inSet, resetRow}
 use Rattle.band_columns.specs.Sets.{columnsFit, formedRow, lockedNamed, lockedValue, namesLocked}
+use Rattle.band_columns.proofs.Fits.{locked-within}
 use Rattle.drive.specs.declared.Drive.{Drive}
 use Rattle.drive.specs.State.{freshDrive, conditionsOf, rowAt, valueAt, settleOf, fallOf, tickOf}
 use Rattle.drive.specs.Events.{Shape, ticking, resetting, setting, sensing, placing, looking, shapeOf, ifTicking, ifResetting, ifSetting}
@@ -106,13 +107,8 @@ module _ (side : Side) (band : ℕ) where
   -- a granted Set names a Locked as 0 or 1
   granted-fits : (d : Drive) (c : BandColumns) (bytes : List ℕ) (b : ℕ) → Free d (setting b c bytes)
       → within 1 (lockedNamed side c) (lockedValue side c) ≡ true
-  unfolding columnsFit
   granted-fits d c bytes b q =
-      pick side (not-false (columnsFit c) (neither (not (columnsFit c)) (ltb mostTokenBytes (length bytes)) (q 1) .0))
-    where
-      pick : (s : Side) → columnsFit c ≡ true → within 1 (lockedNamed s c) (lockedValue s c) ≡ true
-      pick Read e = search (and-left, and-right)
-      pick Write e = search (and-left, and-right)
+      locked-within side c (not-false (columnsFit c) (neither (not (columnsFit c)) (ltb mostTokenBytes (length bytes)) (q 1) .0))
 
   formed-column : (s : Side) (c : BandColumns) (bytes : List ℕ) (x : Row)
       → lockedOn s (formedFrom c bytes x) ≡ cond (lockedNamed s c) (eqb (lockedValue s c) 1) (lockedOn s x)

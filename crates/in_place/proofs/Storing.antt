@@ -27,7 +27,7 @@ use Rattle.band.specs.declared.Row.{Row}
 use Rattle.band_columns.specs.declared.BandColumns.{BandColumns}
 use Rattle.band.specs.Rows.{lastResetType, freshRow, closedOn, settleRow, inSet, resetRow}
 use Rattle.band.specs.Parts.{isLockable}
-use Rattle.band.proofs.Settling.{no-type}
+use Rattle.band.proofs.Settling.{past-types}
 use Rattle.bands.proofs.Steady.{settle-steady, reset-steady}
 use Rattle.geometry.specs.declared.Span.{Span}
 use Rattle.geometry.specs.declared.Placed.{Placed}
@@ -67,14 +67,14 @@ refusal d e n p z = let r = A.refused-stays d e n p z in record { answer = p; st
 unfoldable pub finishOf : ℕ → Drive → Drive
 finishOf t y = settleOf (withRows (map (resetRow t) (y .rows)) y)
 
--- a type above 2 is in no set
+-- a type above the last is in no set
 no-set : (t : ℕ) (rows : List Row) → lastResetType < t → map (resetRow t) rows ≡ rows
 unfolding resetRow
 no-set t [] h = refl
 no-set t (row ∷ rows) h = λ i. one i ∷ no-set t rows h i
   where
     one : resetRow t row ≡ row
-    one = sym (cond-false (inSet (row .«lock_on_reset») t) _ _ _ (sym (no-type (row .«lock_on_reset») t (λ e. omega (arith, h, e)) (λ e. omega (arith, h, e)) (λ e. omega (arith, h, e)))) refl)
+    one = sym (cond-false (inSet (row .«lock_on_reset») t) _ _ _ (sym (past-types (row .«lock_on_reset») t h)) refl)
 
 finish-none : (t : ℕ) (y : Drive) → lastResetType < t → finishOf t y ≡ settleOf y
 unfolding finishOf

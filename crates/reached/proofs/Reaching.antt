@@ -2,14 +2,15 @@
 use mathlib.Core.Path.{_≡_, refl, ap}
 use Prim.Native.Nat.{ℕ, zero, suc, _≤_, _<_}
 use native.Mathlib.Omega.{arith}
-use mathlib.Core.Bool.{Bool, true, false, not, cond, _&&_}
+use mathlib.Core.Bool.{Bool, true, false, not, cond}
 use mathlib.Core.List.{List, [], _∷_, map}
 use lib.Dec.{eqb, leb, ltb}
 use lib.ListN.{length, replicate}
 use borrow.Author.Tests.{leb-true, eqb-true, not-false}
 use Rattle.base.specs.Columns.{named, within}
 use Rattle.base.specs.Rows.{isRow}
-use Rattle.base.proofs.Cases.{cond-either, and-left, and-right, neither}
+use Rattle.base.proofs.Cases.{cond-either, neither}
+use Rattle.base.proofs.Columns.{each-holds}
 use Rattle.base.proofs.Refusals.{appliesAt}
 use Rattle.base.proofs.Rows.{row-is}
 use Rattle.base.proofs.Jumps.{ticks-keep}
@@ -24,8 +25,9 @@ use Rattle.token_reader.specs.Read.{mostTokenBytes, TokenOutcome, elements, ref
 use Rattle.token_reader.proofs.Fits.{read-fits}
 use Rattle.band.specs.declared.Row.{Row}
 use Rattle.band_columns.specs.declared.BandColumns.{BandColumns}
-use Rattle.band.specs.Rows.{allResets, freshRow, withLocked, lockUnder, settleRow, inSet, resetRow}
+use Rattle.band.specs.Rows.{freshRow, withLocked, lockUnder, settleRow, inSet, resetRow}
 use Rattle.band_columns.specs.Sets.{columnsFit, formedRow}
+use Rattle.band_columns.proofs.Fits.{fitting}
 use Rattle.band.proofs.Settling.{fresh-settles, fresh-reset}
 use Rattle.geometry.specs.declared.Span.{Span}
 use Rattle.geometry.specs.Blocks.{bandSpans, overlapping}
@@ -68,29 +70,11 @@ either-within : (b : Bool) (most new old : ℕ) → old ≤ most → within most
 either-within true most new old h e = leb-true new most e
 either-within false most new old h e = h
 
--- the last of six tests that hold together
-sixth : (a b c d e f : Bool) → (a && (b && (c && (d && (e && f))))) ≡ true → f ≡ true
-sixth a b c d e f t =
-    and-right e f
-    (and-right d (e && f) (and-right c (d && (e && f)) (and-right b (c && (d && (e && f))) (and-right a (b && (c && (d && (e && f)))) t))))
-
-lock-within : (c : BandColumns) → columnsFit c ≡ true → within 7 (named 16 (c .mask)) (c .«lock_on_reset») ≡ true
-unfolding columnsFit
-lock-within c t =
-    sixth
-    (ltb (c .mask) 64)
-    (within 1 (named 1 (c .mask)) (c .«read_lock_enabled»))
-    (within 1 (named 2 (c .mask)) (c .«write_lock_enabled»))
-    (within 1 (named 4 (c .mask)) (c .«read_locked»))
-    (within 1 (named 8 (c .mask)) (c .«write_locked»))
-    (within allResets (named 16 (c .mask)) (c .«lock_on_reset»))
-    t
-
 formed-fits : (c : BandColumns) (tokens : List ℕ) → columnsFit c ≡ true → Bytes tokens → (row : Row) → RowFits row
     → RowFits (formedFrom c tokens row)
 unfolding formedRow
 formed-fits c tokens e k row r = record {
-  «lock_on_reset» = either-within (named 16 (c .mask)) _ (c .«lock_on_reset») (row .«lock_on_reset») (r .«lock_on_reset») (lock-within c e);
+  «lock_on_reset» = either-within (named 16 (c .mask)) _ (c .«lock_on_reset») (row .«lock_on_reset») (r .«lock_on_reset») (fitting c e .«lock_on_reset»);
   expression =
       cond-either Stored (named 32 (c .mask)) (expressionIn (readTokens tokens)) (row .expression)
       (λ q. read-stored tokens (readTokens tokens) k refl) (λ q. r .expression);
@@ -172,15 +156,13 @@ fresh-within capacity = record { begins = omega arith; ends = omega arith }
 in-range : (capacity bands sensors : ℕ) → headerFits capacity bands sensors ≡ true → InRange capacity bands sensors
 unfolding headerFits
 in-range capacity bands sensors h =
-    let h1 = and-right (leb 1 capacity) _ h in
-    let h2 = and-right (leb capacity mostBlocks) _ h1 in
-    let h3 = and-right (leb 1 bands) _ h2 in
+    let t = each-holds (leb 1 capacity) (leb capacity mostBlocks ∷ leb 1 bands ∷ leb bands mostBands ∷ leb sensors mostSensors ∷ []) h in
     record {
-      some-blocks = leb-true 1 capacity (and-left _ _ h);
-      few-blocks = leb-true capacity mostBlocks (and-left _ _ h1);
-      some-bands = leb-true 1 bands (and-left _ _ h2);
-      few-bands = leb-true bands mostBands (and-left _ _ h3);
-      few-sensors = leb-true sensors mostSensors (and-right (leb bands mostBands) (leb sensors mostSensors) h3);
+      some-blocks = leb-true 1 capacity (t 0);
+      few-blocks = leb-true capacity mostBlocks (t 1);
+      some-bands = leb-true 1 bands (t 2);
+      few-bands = leb-true bands mostBands (t 3);
+      few-sensors = leb-true sensors mostSensors (t 4);
     }
 
 fresh-shaped : (capacity bands sensors : ℕ) → headerFits capacity bands sensors ≡ true → Shaped (freshDrive capacity bands sensors)

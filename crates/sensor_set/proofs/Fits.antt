@@ -2,14 +2,15 @@
 use mathlib.Core.Path.{_≡_, refl}
 use Prim.Native.Nat.{ℕ}
 use native.Mathlib.Omega.{arith}
-use mathlib.Core.Bool.{Bool, true, false, _&&_}
+use mathlib.Core.Bool.{Bool, true, false}
+use mathlib.Core.List.{[], _∷_}
 use lib.Dec.{ltb}
 use borrow.Author.Tests.{leb-true, le-leb}
 use Rattle.base.specs.Columns.{named, within}
-use Rattle.base.proofs.Cases.{and-left, and-right}
+use Rattle.base.proofs.Columns.{each-holds}
 use Rattle.sensor.specs.Single.{greatestNumber, greatestFraction}
 use Rattle.sensor_set.specs.declared.SensorColumns.{SensorColumns}
-use Rattle.sensor_set.specs.Columns.{columnsFit}
+use Rattle.sensor_set.specs.Columns.{sensorMasks, columnsFit}
 
 pub record Fitting (c : SensorColumns) : Type 0 where
   pub enabled : within 1 (named 1 (c .mask)) (c .enabled) ≡ true
@@ -20,39 +21,27 @@ pub record Fitting (c : SensorColumns) : Type 0 where
   pub «off_fraction» : within greatestFraction (named 32 (c .mask)) (c .«off_fraction») ≡ true
   pub «off_timeout» : within greatestNumber (named 64 (c .mask)) (c .«off_timeout») ≡ true
 
--- eight tests that hold together hold each by itself
-each : (a b c d e f g h : Bool) → (a && (b && (c && (d && (e && (f && (g && h))))))) ≡ true
-    → (b ≡ true) × (c ≡ true) × (d ≡ true) × (e ≡ true) × (f ≡ true) × (g ≡ true) × (h ≡ true)
-each a b c d e f g h t =
-    let t1 = and-right a (b && (c && (d && (e && (f && (g && h)))))) t in
-    let t2 = and-right b (c && (d && (e && (f && (g && h))))) t1 in
-    let t3 = and-right c (d && (e && (f && (g && h)))) t2 in
-    let t4 = and-right d (e && (f && (g && h))) t3 in
-    let t5 = and-right e (f && (g && h)) t4 in
-    let t6 = and-right f (g && h) t5 in
-    (and-left b _ t1, and-left c _ t2, and-left d _ t3, and-left e _ t4, and-left f _ t5, and-left g h t6, and-right g h t6)
-
 pub fitting : (c : SensorColumns) → columnsFit c ≡ true → Fitting c
 unfolding columnsFit
 fitting c e =
-    let t = each
-    (ltb (c .mask) 128)
-    (within 1 (named 1 (c .mask)) (c .enabled))
-    (within greatestNumber (named 2 (c .mask)) (c .«on_threshold»))
-    (within greatestFraction (named 4 (c .mask)) (c .«on_fraction»))
-    (within greatestNumber (named 8 (c .mask)) (c .«on_timeout»))
-    (within greatestNumber (named 16 (c .mask)) (c .«off_threshold»))
-    (within greatestFraction (named 32 (c .mask)) (c .«off_fraction»))
-    (within greatestNumber (named 64 (c .mask)) (c .«off_timeout»))
+    let t = each-holds (ltb (c .mask) sensorMasks)
+    (within 1 (named 1 (c .mask)) (c .enabled)
+    ∷ within greatestNumber (named 2 (c .mask)) (c .«on_threshold»)
+    ∷ within greatestFraction (named 4 (c .mask)) (c .«on_fraction»)
+    ∷ within greatestNumber (named 8 (c .mask)) (c .«on_timeout»)
+    ∷ within greatestNumber (named 16 (c .mask)) (c .«off_threshold»)
+    ∷ within greatestFraction (named 32 (c .mask)) (c .«off_fraction»)
+    ∷ within greatestNumber (named 64 (c .mask)) (c .«off_timeout»)
+    ∷ [])
     e in
     record {
-      enabled = t .0;
-      «on_threshold» = t .1;
-      «on_fraction» = t .2;
-      «on_timeout» = t .3;
-      «off_threshold» = t .4;
-      «off_fraction» = t .5;
-      «off_timeout» = t .6;
+      enabled = t 1;
+      «on_threshold» = t 2;
+      «on_fraction» = t 3;
+      «on_timeout» = t 4;
+      «off_threshold» = t 5;
+      «off_fraction» = t 6;
+      «off_timeout» = t 7;
     }
 
 -- a value in the range of fractions is in that of numbers
