@@ -3,6 +3,8 @@ use native.Mathlib.Omega.{arith}
 use mathlib.Core.Path.{refl}
 use mathlib.Core.Logic.{⊎-elim}
 use borrow.Author.Needs.{needs}
+use Rattle.band.specs.Rows.{lastResetType}
+use Rattle.in_place.specs.Parts.{noReset}
 use Rattle.in_place.proofs.Storing.{stored-idle, sensor-stored, nothing-stored, stops-stored, pass-stored, cycle-stored, row-stored, spans-stored, transfer-stored}
 use Rattle.in_place.proofs.Changing.{sensor-place, sensor-scaled, row-placed, row-scaled}
 use Rattle.in_place.proofs.Finishing.{RowsFinished, finish-begin, finish-lock, finish-stay, finish-pass, finish-as, finished-ran, finished-flag}
@@ -10,8 +12,8 @@ use Rattle.in_place.proofs.Running.{RunSoFar, run-begin, run-broken, ru
 use Rattle.in_place.proofs.run_settled.Statement.{statement}
 use Rattle.in_place.proofs.run_settled.Tie as tie
 
--- the run's NO_RESET is in no set
-above : _<_ 2 255
+-- no type is the run's NO_RESET
+above : lastResetType < noReset
 above = omega arith
 
 abbrev Inv-loop2 : tie.InvT-loop2
