@@ -16,11 +16,9 @@ use Rattle.answer.specs.declared.Answer.the-variants.{Done, NoRow, OutOfRange}
 use Rattle.answer.specs.Numbers.{numberOf}
 use Rattle.sensor.specs.declared.single.Sensor.{Sensor}
 use Rattle.sensor.specs.declared.single.SensorAnswer.{SensorAnswer}
-use Rattle.sensor_set.specs.declared.SensorColumns.{SensorColumns}
-use Rattle.sensor.specs.Single.{freshSensor, readingAnswer, readingOf, powerCycleOf, Answers}
+use Rattle.sensor.specs.Single.{freshSensor, powerCycleOf, Answers}
 use Rattle.sensor_set.specs.declared.SensorEvent.{SensorEvent}
-use Rattle.sensor_set.specs.declared.SensorEvent.the-variants as S
-use Rattle.sensor_set.specs.Columns.{setAnswer, setOf, sensorAnswer, sensorAfter}
+use Rattle.sensor_set.specs.Columns.{sensorAnswer, sensorAfter}
 use Rattle.band.specs.declared.Side.{Side}
 use Rattle.band.specs.declared.Row.{Row}
 use Rattle.band_columns.specs.declared.BandColumns.{BandColumns}
@@ -32,14 +30,14 @@ use Rattle.drive.specs.declared.Drive.{Drive}
 use Rattle.drive.specs.declared.Kind.{Kind}
 use Rattle.drive.specs.declared.Reply.{Reply}
 use Rattle.drive.specs.State.{withRows, withSpans, withSensors, conditionsOf, settleOf, tickOf, stopNext}
-use Rattle.drive.specs.Events.{Event, reading, elapse, reset, sensorSet, bandSet, geometry, transfer, Shape, sensing, shapeOf, ifTicking}
+use Rattle.drive.specs.Events.{elapse, reset, bandSet, geometry, transfer, Shape, sensing, ifTicking}
 use Rattle.drive.specs.Events.{answerOf, actBy, actOf, sideOf, formedFrom, Replies, eventOf}
 use Rattle.drive.proofs.Answers as A
 use Rattle.elapse.specs.declared.Elapsed.{Elapsed}
 use Rattle.elapse.specs.Jumps.{Elapses}
 use Rattle.row_set.specs.declared.RowAnswer.{RowAnswer}
 use Rattle.row_set.specs.Forming.{rowAnswer, SetsRow}
-use Rattle.events.specs.Parts.{refused, granting, Stores}
+use Rattle.events.specs.Parts.{refused, granting, Stores, RepliesBy}
 use Rattle.events.proofs.Answering.{refuses, grants, done, by-answer}
 
 -- ---- a sensor's and a row's events
@@ -65,20 +63,14 @@ module _ (d : Drive) (s : ℕ) (one : Sensor) (r : SensorAnswer) (q : Reply) (t 
       (modify-set f (d .sensors) s freshSensor (r .sensor) (h ∙ ap f (k .element)) (omega (arith, k .long, row-place (d .«sensor_count») s t p e)))
 
   -- any event on the sensor
-  sensor-replies : (y : Event) (x : SensorEvent) → shapeOf y ≡ sensing s x → Answers (sensorAnswer x) (sensorAfter x one) r
-      → Stores (r .answer) (withSensors (set (d .sensors) s (r .sensor)) d) d q → Replies d y q
+  pub sensor-replies : (x : SensorEvent) → Answers (sensorAnswer x) (sensorAfter x one) r
+      → Stores (r .answer) (withSensors (set (d .sensors) s (r .sensor)) d) d q → RepliesBy d (sensing s x) q
   unfolding actOf
-  sensor-replies y x h a w =
+  sensor-replies x a w y h =
       by-answer d y (numberOf (r .answer)) (withSensors (set (d .sensors) s (r .sensor)) d) q (w .answer)
       (a .answer ∙ A.sensor-answered d y s x h t p e)
       (w .stops) (ap (λ (z : Shape). ifTicking z (λ n. stops tickOf stopNext n d) 0) h) (w .drive)
       (stored (sensorAfter x) (a .sensor) ∙ ap (actBy d) (sym h))
-
-  pub reading-replies : (v : ℕ) → Answers (readingAnswer v) (readingOf v one) r → Stores (r .answer) (withSensors (set (d .sensors) s (r .sensor)) d) d q → Replies d (reading s v) q
-  reading-replies v a w = sensor-replies (reading s v) (S.Reading v) refl a w
-
-  pub set-replies : (c : SensorColumns) → Answers (setAnswer c) (setOf c one) r → Stores (r .answer) (withSensors (set (d .sensors) s (r .sensor)) d) d q → Replies d (sensorSet s c) q
-  set-replies c a w = sensor-replies (sensorSet s c) (S.Set c) refl a w
 
 -- ---- elapse and reset
 
@@ -162,13 +154,9 @@ module _ (d : Drive) (b : ℕ) (c : BandColumns) (bytes : List ℕ) (row : Row) 
           cond-pick z f = ap (λ (x : Bool). cond x (formedFrom c bytes row) row) f
 
 -- a row that is not there
-pub no-sensor-reading : (d : Drive) (s v : ℕ) (t : Bool) (q : Reply) → t ≡ not (isRow (d .«sensor_count») s) → t ≡ true → q ≡ refused NoRow d
-    → Replies d (reading s v) q
-no-sensor-reading d s v t q p e w = refuses d (reading s v) NoRow q w (A.no-sensor d (reading s v) s (S.Reading v) refl t p e) refl
-
-pub no-sensor-set : (d : Drive) (s : ℕ) (c : SensorColumns) (t : Bool) (q : Reply) → t ≡ not (isRow (d .«sensor_count») s) → t ≡ true
-    → q ≡ refused NoRow d → Replies d (sensorSet s c) q
-no-sensor-set d s c t q p e w = refuses d (sensorSet s c) NoRow q w (A.no-sensor d (sensorSet s c) s (S.Set c) refl t p e) refl
+pub no-sensor : (d : Drive) (s : ℕ) (x : SensorEvent) (t : Bool) (q : Reply) → t ≡ not (isRow (d .«sensor_count») s) → t ≡ true → q ≡ refused NoRow d
+    → RepliesBy d (sensing s x) q
+no-sensor d s x t q p e w y h = refuses d y NoRow q w (A.no-sensor d y s x h t p e) refl
 
 pub no-band : (d : Drive) (b : ℕ) (c : BandColumns) (bytes : List ℕ) (t : Bool) (q : Reply) → t ≡ not (isRow (d .«band_count») b) → t ≡ true
     → q ≡ refused NoRow d → Replies d (bandSet b c bytes) q

@@ -8,6 +8,7 @@ use Rattle.answer.specs.Numbers.{numberOf}
 use Rattle.drive.specs.declared.Drive.{Drive}
 use Rattle.drive.specs.declared.Reply.{Reply}
 use Rattle.drive.specs.State.{settleOf}
+use Rattle.drive.specs.Events.{Event, Shape, shapeOf, Replies}
 
 -- a refusal, and an event that is done
 abbrev pub refused : Answer → Drive → Reply
@@ -21,3 +22,7 @@ pub record Stores (a : Answer) (x d : Drive) (q : Reply) : Type 0 where
   pub answer : numberOf (q .answer) ≡ numberOf a
   pub stops : q .stops ≡ 0
   pub drive : q .drive ≡ cond (eqb (numberOf a) 0) (settleOf x) d
+
+-- the reply to every event of a shape
+abbrev pub RepliesBy : Drive → Shape → Reply → Type 0
+RepliesBy d x r = (e : Event) → shapeOf e ≡ x → Replies d e r

@@ -8,10 +8,10 @@ ghost use lib.ListN.{set};
 ghost use Rattle.answer.specs.Numbers.{numberOf};
 ghost use Rattle.sensor.specs.Single.{powerCycleOf};
 ghost use Rattle.drive.specs.State.{withRows, withSensors};
-ghost use Rattle.drive.specs.Events.{Replies, eventOf};
+ghost use Rattle.drive.specs.Events.{sensing, Replies, eventOf};
 ghost use Rattle.drive.specs.Events.{Event as E};
 ghost use Rattle.elapse.specs.Jumps.{running};
-ghost use Rattle.events.specs.Parts.{refused, granting, Stores};
+ghost use Rattle.events.specs.Parts.{refused, granting, Stores, RepliesBy};
 use answer::Answer;
 use band::Row;
 use band_columns::BandColumns;
@@ -22,6 +22,7 @@ use row_set::RowAnswer;
 use sensor::Sensor;
 use sensor::SensorAnswer;
 use sensor_set::SensorColumns;
+use sensor_set::SensorEvent;
 
 // Granted, document 01's word: the answer is done.
 fn granted(answer: Answer) -> bool
@@ -68,9 +69,9 @@ fn store_sensor(drive: Drive, at: usize, r: SensorAnswer) -> Reply
     refuse(drive, answer)
 }
 
-// 1 reading
-pub fn reading(drive: Drive, sensor: u64, value: u64) -> Reply
-    ensures { λ r. ⌜ Replies drive (E.reading sensor value) r ⌝ }
+// An event on one sensor.
+fn on_sensor(drive: Drive, sensor: u64, event: SensorEvent) -> Reply
+    ensures { λ r. ⌜ RepliesBy drive (sensing sensor event) r ⌝ }
 {
     if drive::no_row(drive.sensor_count, sensor) {
         return refuse(drive, Answer::NoRow);
@@ -78,8 +79,18 @@ pub fn reading(drive: Drive, sensor: u64, value: u64) -> Reply
     let at = sensor as usize;
     let all = drive.sensors;
     let one = sensors::sensor_at(all, at);
-    let r = one.reading(value);
+    let r = match event {
+        SensorEvent::Reading { value } => one.reading(value),
+        SensorEvent::Set { columns } => sensor_set::set(one, columns),
+    };
     store_sensor(drive, at, r)
+}
+
+// 1 reading
+pub fn reading(drive: Drive, sensor: u64, value: u64) -> Reply
+    ensures { λ r. ⌜ Replies drive (E.reading sensor value) r ⌝ }
+{
+    on_sensor(drive, sensor, SensorEvent::Reading { value })
 }
 
 // 2 elapse
@@ -129,14 +140,7 @@ pub fn reset(drive: Drive, reset_type: u64) -> Reply
 pub fn set_sensor(drive: Drive, sensor: u64, columns: SensorColumns) -> Reply
     ensures { λ r. ⌜ Replies drive (E.sensorSet sensor columns) r ⌝ }
 {
-    if drive::no_row(drive.sensor_count, sensor) {
-        return refuse(drive, Answer::NoRow);
-    }
-    let at = sensor as usize;
-    let all = drive.sensors;
-    let former = sensors::sensor_at(all, at);
-    let r = sensor_set::set(former, columns);
-    store_sensor(drive, at, r)
+    on_sensor(drive, sensor, SensorEvent::Set { columns })
 }
 
 // What a row's answer makes of the drive.

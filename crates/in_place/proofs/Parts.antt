@@ -18,10 +18,8 @@ use Rattle.answer.specs.declared.Answer.{Answer}
 use Rattle.answer.specs.Numbers.{numberOf}
 use Rattle.sensor.specs.declared.single.Sensor.{Sensor}
 use Rattle.sensor.specs.declared.single.SensorAnswer.{SensorAnswer}
-use Rattle.sensor_set.specs.declared.SensorColumns.{SensorColumns}
-use Rattle.sensor.specs.Single.{readingAnswer, readingOf, sensorTick, runs, endsNext, Answers}
+use Rattle.sensor.specs.Single.{sensorTick, runs, endsNext, Answers}
 use Rattle.sensor.specs.Parts.{loweredBy}
-use Rattle.sensor_set.specs.Columns.{setAnswer, setOf, sensorAnswer, sensorAfter}
 use Rattle.sensors.specs.declared.Passed.{Passed}
 use Rattle.sensors.specs.Sixteen.{Passes}
 use Rattle.sensors.specs.Parts.{quietTicks}
@@ -35,12 +33,10 @@ use Rattle.geometry.specs.declared.Span.{Span}
 use Rattle.geometry.specs.Events.{transferAnswer}
 use Rattle.drive.specs.Events.{sideOf}
 use Rattle.drive.specs.declared.Kind.{Kind}
-use Rattle.drive.specs.declared.Kind.the-variants as K
 use Rattle.row_set.specs.declared.RowAnswer.{RowAnswer}
 use Rattle.row_set.specs.Forming.{SetsRow}
 use Rattle.base.proofs.Rows.{row-there}
 use Rattle.sensor_set.specs.declared.SensorEvent.{SensorEvent}
-use Rattle.sensor_set.specs.declared.SensorEvent.the-variants as S
 use Rattle.in_place.specs.declared.Change.{Change}
 use Rattle.in_place.specs.declared.Change.the-variants as C
 use Rattle.in_place.specs.Parts.{noReset, sensorChange, rowChange, elapseChange, resetChange, changeOf}
@@ -67,13 +63,6 @@ sensor-left {one = one} m p en es et = record {
   sensor-is = es ∙ p .sensor;
   turned-is = et ∙ ap (λ (s : Sensor). not (Bool·beq (one .condition) (s .condition))) (p .sensor);
 }
-
--- a reading's answer, and a Set's, by the event that it is
-pub answers-reading : {event : SensorEvent} (one : Sensor) (v : ℕ) {r q : SensorAnswer} → event ≡ S.Reading v → Answers (readingAnswer v) (readingOf v one) r → q ≡ r → Answers (sensorAnswer event) (sensorAfter event one) q
-answers-reading one v e h w = rw (e, w) h
-
-pub answers-set : {event : SensorEvent} (one : Sensor) (c : SensorColumns) {r q : SensorAnswer} → event ≡ S.Set c → Answers (setAnswer c) (setOf c one) r → q ≡ r → Answers (sensorAnswer event) (sensorAfter event one) q
-answers-set one c e h w = rw (e, w) h
 
 -- ---- one row
 
@@ -153,31 +142,6 @@ power-cycle t e = cond-true (eqb t 0) _ _ _ (eq-eqb t 0 e) refl
 pub other-reset : (t n : ℕ) → t ≢ 0 → n ≡ cond (ltb lastResetType t) 2 0 → C.Nothing n t ≡ resetChange t
 other-reset t n e q = cond-false (eqb t 0) _ _ _ (ne-eqb t 0 e) (ap (λ (m : ℕ). C.Nothing m t) q)
 
-module _ (sensors bands : ℕ) (kind : Kind) where
-  pub change-reading : (s v : ℕ) (r : Change) → kind ≡ K.Reading s v → r ≡ sensorChange sensors s (S.Reading v) → r ≡ changeOf sensors bands kind
-  unfolding changeOf
-  change-reading s v r q e = e ∙ ap (changeOf sensors bands) (sym q)
-
-  pub change-elapse : (n : ℕ) (r : Change) → kind ≡ K.Elapse n → r ≡ elapseChange n → r ≡ changeOf sensors bands kind
-  unfolding changeOf
-  change-elapse n r q e = e ∙ ap (changeOf sensors bands) (sym q)
-
-  pub change-reset : (t : ℕ) (r : Change) → kind ≡ K.Reset t → r ≡ resetChange t → r ≡ changeOf sensors bands kind
-  unfolding changeOf
-  change-reset t r q e = e ∙ ap (changeOf sensors bands) (sym q)
-
-  pub change-set : (s : ℕ) (c : SensorColumns) (r : Change) → kind ≡ K.SensorSet s c → r ≡ sensorChange sensors s (S.Set c) → r ≡ changeOf sensors bands kind
-  unfolding changeOf
-  change-set s c r q e = e ∙ ap (changeOf sensors bands) (sym q)
-
-  pub change-row : (b : ℕ) (c : BandColumns) (r : Change) → kind ≡ K.BandSet b c → r ≡ rowChange bands b c → r ≡ changeOf sensors bands kind
-  unfolding changeOf
-  change-row b c r q e = e ∙ ap (changeOf sensors bands) (sym q)
-
-  pub change-spans : (b start n : ℕ) → kind ≡ K.Geometry b start n → C.Spans b start n ≡ changeOf sensors bands kind
-  unfolding changeOf
-  change-spans b start n q = ap (changeOf sensors bands) (sym q)
-
-  pub change-none : (w start n : ℕ) → kind ≡ K.Transfer w start n → C.Transfer w start n ≡ changeOf sensors bands kind
-  unfolding changeOf
-  change-none w start n q = ap (changeOf sensors bands) (sym q)
+-- the change of a kind of event, where the arm is for that kind
+pub changed : (sensors bands : ℕ) (kind l : Kind) (r : Change) → kind ≡ l → r ≡ changeOf sensors bands l → r ≡ changeOf sensors bands kind
+changed sensors bands kind l r q e = e ∙ ap (changeOf sensors bands) (sym q)

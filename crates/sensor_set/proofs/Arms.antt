@@ -1,10 +1,13 @@
--- What the arms of a Set come to, over the values that their calls hand back: stored, and then enabled or disabled.
+-- What the arms of a Set and of an event come to, over the values that their calls hand back: stored, and then enabled or disabled.
 use mathlib.Core.Path.{_≡_, sym, ap, _∙_}
 use mathlib.Core.Bool.{Bool, true, false, not, cond}
 use Rattle.base.proofs.Cases.{cond-true}
 use Rattle.sensor.specs.declared.single.Sensor.{Sensor}
+use Rattle.sensor.specs.declared.single.SensorAnswer.{SensorAnswer}
+use Rattle.sensor.specs.Single.{Answers}
 use Rattle.sensor_set.specs.declared.SensorColumns.{SensorColumns}
-use Rattle.sensor_set.specs.Columns.{columnsFit, setAnswer, storedOf, switchedOf, setOf}
+use Rattle.sensor_set.specs.declared.SensorEvent.{SensorEvent}
+use Rattle.sensor_set.specs.Columns.{columnsFit, setAnswer, storedOf, switchedOf, setOf, sensorAnswer, sensorAfter}
 
 pub set-granted : (c : SensorColumns) (t : Bool) → t ≡ columnsFit c → t ≡ true → 0 ≡ setAnswer c
 set-granted c t p e = sym (ap (λ (x : Bool). cond (not x) 2 0) (sym p ∙ e))
@@ -16,3 +19,8 @@ pub set-done : (c : SensorColumns) (s m r : Sensor) (t : Bool) → t ≡ columns
     → r ≡ setOf c s
 unfolding setOf
 set-done c s m r t p e q w = cond-true (columnsFit c) _ _ _ (sym p ∙ e) (w ∙ ap (switchedOf c) q)
+
+-- what the arm of a match on an event hands on: the event is the one that the arm is for
+pub event-arm : {event : SensorEvent} (one : Sensor) (x : SensorEvent) {r q : SensorAnswer} → event ≡ x → Answers (sensorAnswer x) (sensorAfter x one) r → q ≡ r
+    → Answers (sensorAnswer event) (sensorAfter event one) q
+event-arm one x e a w = rw (e, w) a

@@ -1,38 +1,13 @@
-use Rattle.base.proofs.Rows.{row-place}
-use Rattle.events.proofs.Arms.{no-sensor-reading, reading-replies}
+use mathlib.Core.Path.{refl}
 use borrow.Author.Needs.{needs}
 use Rattle.events.proofs.reading.Statement.{statement}
 use Rattle.events.proofs.reading.Tie as tie
 
-no-row-requires : tie.Need-no-row-requires
-no-row-requires c κs = search needs
-
-refuse-requires : tie.Need-refuse-requires
-refuse-requires c κs = search needs
+on-sensor-requires : tie.Need-on-sensor-requires
+on-sensor-requires c κs = search needs
 
 returns : tie.Need-returns
-returns c = search no-sensor-reading
-
-sensor-at-requires : tie.Need-sensor-at-requires
-sensor-at-requires c κs = search needs
-
-reading-requires : tie.Need-reading-requires
-reading-requires c κs = search needs
-
-store-sensor-requires : tie.Need-store-sensor-requires
-store-sensor-requires c κs = search row-place
-
-returns-2 : tie.Need-returns-2
-returns-2 c = search reading-replies
+returns c = c .on-sensor .ensures _ refl
 
 pub reading-spec : {M : Type 1} → statement M
-reading-spec =
-    tie.close
-    (tie.spec
-    no-row-requires
-    refuse-requires
-    returns
-    sensor-at-requires
-    reading-requires
-    store-sensor-requires
-    returns-2)
+reading-spec = tie.close (tie.spec on-sensor-requires returns)

@@ -1,5 +1,6 @@
 use borrow.Author.Needs.{needs}
-use Rattle.in_place.proofs.Parts.{change-reading, change-elapse, change-reset, change-set, change-row, change-spans, change-none}
+use Rattle.in_place.specs.Parts.{changeOf}
+use Rattle.in_place.proofs.Parts.{changed}
 use Rattle.in_place.proofs.change_of.Statement.{statement}
 use Rattle.in_place.proofs.change_of.Tie as tie
 
@@ -40,25 +41,32 @@ enum-known-kind-7 : tie.Need-enum-known-kind-7
 enum-known-kind-7 c = search needs
 
 returns : tie.Need-returns
-returns c = search change-reading
+unfolding changeOf
+returns c = search changed
 
 returns-2 : tie.Need-returns-2
-returns-2 c = search change-elapse
+unfolding changeOf
+returns-2 c = search changed
 
 returns-3 : tie.Need-returns-3
-returns-3 c = search change-reset
+unfolding changeOf
+returns-3 c = search changed
 
 returns-4 : tie.Need-returns-4
-returns-4 c = search change-set
+unfolding changeOf
+returns-4 c = search changed
 
 returns-5 : tie.Need-returns-5
-returns-5 c = search change-row
+unfolding changeOf
+returns-5 c = search changed
 
 returns-6 : tie.Need-returns-6
-returns-6 c = search change-spans
+unfolding changeOf
+returns-6 c = search changed
 
 returns-7 : tie.Need-returns-7
-returns-7 c = search change-none
+unfolding changeOf
+returns-7 c = search changed
 
 pub change-of-spec : {M : Type 1} → statement M
 change-of-spec =

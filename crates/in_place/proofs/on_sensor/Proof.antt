@@ -1,7 +1,8 @@
 use mathlib.Core.Path.{refl}
 use mathlib.Core.Logic.{⊎-elim}
 use borrow.Author.Needs.{needs}
-use Rattle.in_place.proofs.Parts.{sensor-left, answers-reading, answers-set}
+use Rattle.sensor_set.proofs.Arms.{event-arm}
+use Rattle.in_place.proofs.Parts.{sensor-left}
 use Rattle.in_place.proofs.on_sensor.Statement.{statement}
 use Rattle.in_place.proofs.on_sensor.Tie as tie
 
@@ -26,7 +27,7 @@ differ-requires c κs = search needs
 returns : tie.Need-returns
 returns c =
     let h =
-    ⊎-elim (λ w. answers-reading _ _ (w .1 .given .1) (w .3 .ensures) (w .4)) (λ w. answers-set _ _ (w .1 .given .1) (w .3 .ensures) (w .4))
+    ⊎-elim (λ w. event-arm _ _ (w .1 .given .1) (w .3 .ensures) (w .4)) (λ w. event-arm _ _ (w .1 .given .1) (w .3 .ensures) (w .4))
     (c .before .before .before .match .came) in
     sensor-left _ h (c .before .number .ensures) refl (c .differ .ensures)
 
