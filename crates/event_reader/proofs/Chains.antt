@@ -2,13 +2,13 @@
 use mathlib.Core.Path.{_≡_, refl, sym, ap, _∙_, subst}
 use Prim.Native.Nat.{ℕ, _+_, _-_, _/_, _%_, _≤_, _<_}
 use native.Mathlib.Omega.{arith}
-use mathlib.Core.Bool.{Bool, true, false, cond}
-use mathlib.Core.List.{List}
+use mathlib.Core.Bool.{Bool, true, false, cond, _&&_}
+use mathlib.Core.List.{List, [], _∷_}
 use lib.Dec.{eqb, leb, ltb}
 use lib.ListN.{length, take, drop}
-use borrow.Author.Tests.{lt-ltb, le-ltb, le-leb, lt-leb, eq-eqb, ne-eqb, eqb-true, eqb-false, leb-true}
+use borrow.Author.Tests.{lt-ltb, le-ltb, le-leb, lt-leb, eq-eqb, ne-eqb, eqb-true, eqb-false, leb-true, ltb-true}
 use Rattle.base.specs.Columns.{named}
-use Rattle.base.proofs.Cases.{cond-true, cond-false}
+use Rattle.base.proofs.Cases.{cond-true, cond-false, and-left, and-right}
 use Rattle.numbers.specs.declared.Number.{Number}
 use Rattle.numbers.specs.declared.Number.the-variants.{Is, Bad}
 use Rattle.numbers.specs.Groups.{Found, found, foundIn, numberAt}
@@ -19,7 +19,7 @@ use Rattle.event_reader.specs.declared.FirstColumns.the-variants as F
 use Rattle.event_reader.specs.declared.BytesRead.{BytesRead}
 use Rattle.event_reader.specs.declared.BytesRead.the-variants as P
 use Rattle.event_reader.proofs.Bounds.{NumberIn, number-here}
-use Rattle.event_reader.specs.Fields.{Parsed, event, broken, field, Follow, firstColumnsAt, Stretch, stretch, cut, fieldTokens, tokensAt, columnAt, stretchAt, expressionAt, geometryAt, transferAt, ofKind, eventAt}
+use Rattle.event_reader.specs.Fields.{Parsed, event, broken, field, Follow, firstColumnsAt, Stretch, stretch, cut, fieldTokens, tokensAt, columnAt, stretchAt, expressionAt, geometryAt, transferAt, KindAt, kinds, among, ofKind, eventAt}
 use Rattle.event_reader.specs.Parts.{firstColumnsIn, bytesReadIn}
 
 -- a number that does not read, and one that does
@@ -143,27 +143,23 @@ pub kind-span : (s : List ℕ) (at : ℕ) (r : Number) (kind n : ℕ) (p : Parse
     → (kind ≡ 3 → ⊥) → (kind ≡ 4 → ⊥) → (kind ≡ 5 → ⊥) → 1 ≤ kind → kind < 8 → p ≡ cond (eqb kind 6) (geometryAt s n) (transferAt s n) → p ≡ eventAt s at
 kind-span s at r kind n p x q a b c d e l h w = w ∙ span s n kind (after-five kind a b c d e l) h ∙ kind-is s at r kind n x q
 
-unknown : (s : List ℕ) (n kind : ℕ) → (kind ≡ 1 → ⊥) → (kind ≡ 2 → ⊥) → (kind ≡ 3 → ⊥) → (kind ≡ 4 → ⊥) → (kind ≡ 5 → ⊥) → (kind ≡ 6 → ⊥)
-    → (kind ≡ 7 → ⊥) → broken ≡ ofKind kind s n
-unknown s n kind a b c d e f g =
-    cond-false (eqb kind 1) _ _ _ (ne-eqb kind 1 a)
-    (cond-false (eqb kind 2) _ _ _ (ne-eqb kind 2 b)
-    (cond-false (eqb kind 3) _ _ _ (ne-eqb kind 3 c)
-    (cond-false (eqb kind 4) _ _ _ (ne-eqb kind 4 d)
-    (cond-false (eqb kind 5) _ _ _ (ne-eqb kind 5 e)
-    (cond-false (eqb kind 6) _ _ _ (ne-eqb kind 6 f)
-    (cond-false (eqb kind 7) _ _ _ (ne-eqb kind 7 g) refl))))))
+-- every number of a kind is below m, which the checker computes
+abbrev pub kindsBelow : ℕ → List KindAt → Bool
+kindsBelow m [] = true
+kindsBelow m (k ∷ l) = ltb (k .number) m && kindsBelow m l
+
+unknown : (l : List KindAt) (m kind : ℕ) (s : List ℕ) (n : ℕ) → kindsBelow m l ≡ true → m ≤ kind → broken ≡ among l kind s n
+unknown [] m kind s n e h = refl
+unknown (k ∷ l) m kind s n e h =
+    cond-false (eqb kind (k .number)) _ _ _ (ne-eqb kind (k .number) (λ q. omega (arith, h, q, ltb-true (k .number) m (and-left (ltb (k .number) m) _ e))))
+    (unknown l m kind s n (and-right (ltb (k .number) m) _ e) h)
 
 pub kind-zero : (s : List ℕ) (at : ℕ) (r : Number) (kind n : ℕ) → foundIn r ≡ numberAt s at → r ≡ Is kind n → kind < 1 → broken ≡ eventAt s at
 kind-zero s at r kind n x q h = let k : kind ≡ 0 = omega (arith, h) in kind-known s at r kind n 0 broken x q k refl
 
-pub kind-large : (s : List ℕ) (at : ℕ) (r : Number) (kind n : ℕ) → foundIn r ≡ numberAt s at → r ≡ Is kind n → 8 ≤ kind → broken ≡ eventAt s at
-kind-large s at r kind n x q h =
-    unknown s n kind (past 1 (omega arith)) (past 2 (omega arith)) (past 3 (omega arith)) (past 4 (omega arith)) (past 5 (omega arith)) (past 6 (omega arith)) (past 7 (omega arith))
-    ∙ kind-is s at r kind n x q
-  where
-    past : (m : ℕ) → m < 8 → kind ≡ m → ⊥
-    past m l e = omega (arith, e, h, l)
+pub kind-large : (s : List ℕ) (at : ℕ) (r : Number) (kind n m : ℕ) → foundIn r ≡ numberAt s at → r ≡ Is kind n → m ≤ kind → kindsBelow m kinds ≡ true
+    → broken ≡ eventAt s at
+kind-large s at r kind n m x q h e = unknown kinds m kind s n e h ∙ kind-is s at r kind n x q
 
 -- ---- the part of the script that holds an expression's bytes
 

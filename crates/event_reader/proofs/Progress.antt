@@ -2,7 +2,7 @@
 use mathlib.Core.Path.{_≡_, refl, subst}
 use Prim.Native.Nat.{ℕ, _+_, _-_, _≤_, _<_}
 use native.Mathlib.Omega.{arith}
-use mathlib.Core.List.{List}
+use mathlib.Core.List.{List, [], _∷_}
 use mathlib.Core.Bool.{Bool, true, false, cond}
 use lib.Dec.{eqb, leb, ltb}
 use lib.ListN.{length}
@@ -36,6 +36,9 @@ use Rattle.event_reader.specs.Fields.{
   bandSetAt,
   geometryAt,
   transferAt,
+  KindAt,
+  kinds,
+  among,
   ofKind,
   eventAt,
 }
@@ -154,15 +157,19 @@ from-band-set s at =
     on-set s at bandMasks _ (λ _ m b hb. on-five s b m hb _ (λ _ _ _ _ _ g hg.
     on-tokens s g (length s) (expressionAt s g m) _ (expression-at s g m hg) (λ _ h hh. last h (length s) hh)))
 
+-- the fields of each kind, and so those of the kind that has a number
+abbrev AllIn : List ℕ → ℕ → List KindAt → Type 0
+AllIn s at [] = Unit {0}
+AllIn s at (k ∷ l) = EventIn (at + 1) (length s) (k .fields s at) × AllIn s at l
+
+among-in : (l : List KindAt) (n : ℕ) (s : List ℕ) (at : ℕ) → AllIn s at l → EventIn (at + 1) (length s) (among l n s at)
+among-in [] n s at h = tt
+among-in (k ∷ l) n s at h =
+    event-either (at + 1) (length s) (eqb n (k .number)) (k .fields s at) (among l n s at) (h .0) (among-in l n s at (h .1))
+
 of-kind : (kind : ℕ) (s : List ℕ) (at : ℕ) → EventIn (at + 1) (length s) (ofKind kind s at)
-of-kind kind s at =
-    event-either (at + 1) (length s) (eqb kind 1) (readingAt s at) _ (from-reading s at)
-    (event-either (at + 1) (length s) (eqb kind 2) (elapseAt s at) _ (from-elapse s at)
-    (event-either (at + 1) (length s) (eqb kind 3) (resetAt s at) _ (from-reset s at)
-    (event-either (at + 1) (length s) (eqb kind 4) (sensorSetAt s at) _ (from-sensor-set s at)
-    (event-either (at + 1) (length s) (eqb kind 5) (bandSetAt s at) _ (from-band-set s at)
-    (event-either (at + 1) (length s) (eqb kind 6) (geometryAt s at) _ (from-geometry s at)
-    (event-either (at + 1) (length s) (eqb kind 7) (transferAt s at) broken (from-transfer s at) tt))))))
+of-kind kind s at = among-in kinds kind s at
+    (from-reading s at, (from-elapse s at, (from-reset s at, (from-sensor-set s at, (from-band-set s at, (from-geometry s at, (from-transfer s at, tt)))))))
 
 -- the kind and a field: two bytes at least, and within the script
 event-from : (s : List ℕ) (at : ℕ) → EventIn (at + 2) (length s) (eventAt s at)

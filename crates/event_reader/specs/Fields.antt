@@ -1,7 +1,7 @@
 -- Document 01, 'Script': the events and their fields, each read at its place.
 use Prim.Native.Nat.{ℕ, _+_, _-_}
 use mathlib.Core.Bool.{cond}
-use mathlib.Core.List.{List, []}
+use mathlib.Core.List.{List, [], _∷_}
 use lib.Dec.{eqb, leb, ltb}
 use lib.ListN.{length, take, drop}
 use Rattle.base.specs.Columns.{named}
@@ -118,17 +118,33 @@ transferAt s at =
     field (numberAt s at) (λ direction at.
     field (numberAt s at) (λ start at. field (numberAt s at) (λ count at. event (transfer direction start count) at)))
 
--- the event of a kind, whose fields begin at a place; "an unknown kind" is bad
+-- a kind of event: its number, and what its fields read to at a place
+pub record KindAt : Type 0 where
+  pub number : ℕ
+  pub fields : List ℕ → ℕ → Parsed
+
+abbrev pub kind : ℕ → (List ℕ → ℕ → Parsed) → KindAt
+kind n f = record { number = n; fields = f }
+
+-- "Events: 1 reading ..; 2 elapse ..; 3 reset ..; 4 sensor Set ..; 5 band Set ..; 6 geometry ..; 7 transfer .."
+abbrev pub kinds : List KindAt
+kinds =
+    kind 1 readingAt
+    ∷ kind 2 elapseAt
+    ∷ kind 3 resetAt
+    ∷ kind 4 sensorSetAt
+    ∷ kind 5 bandSetAt
+    ∷ kind 6 geometryAt
+    ∷ kind 7 transferAt
+    ∷ []
+
+-- the event of the kind that has the number; "an unknown kind" is bad
+abbrev pub among : List KindAt → ℕ → List ℕ → ℕ → Parsed
+among [] n s at = broken
+among (k ∷ l) n s at = cond (eqb n (k .number)) (k .fields s at) (among l n s at)
+
 abbrev pub ofKind : ℕ → List ℕ → ℕ → Parsed
-ofKind kind s at =
-    cond (eqb kind 1) (readingAt s at)
-    (cond (eqb kind 2) (elapseAt s at)
-    (cond (eqb kind 3) (resetAt s at)
-    (cond (eqb kind 4) (sensorSetAt s at)
-    (cond (eqb kind 5) (bandSetAt s at)
-    (cond (eqb kind 6) (geometryAt s at)
-    (cond (eqb kind 7) (transferAt s at)
-    broken))))))
+ofKind n s at = among kinds n s at
 
 unfoldable pub eventAt : List ℕ → ℕ → Parsed
 eventAt s at = field (numberAt s at) (λ kind at. ofKind kind s at)
