@@ -5,14 +5,14 @@ use mathlib.Core.Bool.{true}
 use native.Mathlib.Omega.{arith}
 use borrow.Author.Tests.{leb-true}
 use Rattle.base.proofs.Cases.{and-left, and-right}
-use Rattle.drive.specs.State.{headerFits}
+use Rattle.drive.specs.State.{mostBands, headerFits}
 use Rattle.condition.specs.Condition.{Condition3}
 use Rattle.condition.proofs.Isolation.{isolation}
 use Rattle.condition.proofs.History.{history}
 
-sixteen : (capacity bands sensors : ℕ) → headerFits capacity bands sensors ≡ true → bands ≤ 16
+sixteen : (capacity bands sensors : ℕ) → headerFits capacity bands sensors ≡ true → bands ≤ mostBands
 unfolding headerFits
-sixteen capacity bands sensors h = leb-true bands 16 (search (and-left, and-right))
+sixteen capacity bands sensors h = leb-true bands mostBands (search (and-left, and-right))
 
 pub condition-3 : Condition3
 condition-3 = record {
