@@ -1,8 +1,6 @@
 // One locking row, or band (document 01, 'Bands'; 002, 4.3.4 and 4.3.7): what settling and a reset make of it.
 ghost use mathlib.Core.Path.{_≡_};
-ghost use mathlib.Core.Bool.{true, cond, _&&_, _||_, not};
-ghost use Prim.Native.Nat.{_<_};
-ghost use Rattle.base.specs.Columns.{named};
+ghost use mathlib.Core.Bool.{true, not};
 ghost use Rattle.band.specs.Rows.{freshRow, closedOn, valueIn, withLocked, lockUnder, settleRow, inSet, resetRow};
 ghost use Rattle.band.specs.Parts.{isLockable, locksBy};
 use expression::Expression;

@@ -1,9 +1,8 @@
 // The columns that a Set of a band carries (document 01, 'Bands'): their ranges, the row that they form, and whether it is held.
 ghost use mathlib.Core.Path.{_≡_};
-ghost use mathlib.Core.Bool.{cond, _&&_, _||_};
-ghost use Prim.Native.Nat.{_<_};
+ghost use mathlib.Core.Bool.{cond, _&&_};
 ghost use lib.Dec.{eqb};
-ghost use Rattle.base.specs.Columns.{named, within};
+ghost use Rattle.base.specs.Columns.{named};
 ghost use Rattle.band_columns.specs.Sets.{columnsFit, formedRow, heldBy};
 use band::Row;
 use expression::Expression;

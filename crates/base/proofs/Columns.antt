@@ -1,7 +1,7 @@
 -- Laws of a Set's columns: a range test, where the mask names the column and where it does not, and tests that hold together.
 use mathlib.Core.Path.{_≡_, refl, sym, ap, _∙_}
 use Prim.Native.Nat.{ℕ, zero, suc, _%_, _≤_, div·zero}
-use mathlib.Core.Bool.{Bool, true, false, _&&_, false≢true}
+use mathlib.Core.Bool.{Bool, true, false, cond, _&&_, false≢true}
 use mathlib.Core.List.{List, [], _∷_}
 use lib.Dec.{eqb, leb}
 use lib.ListN.{getD}
@@ -13,6 +13,11 @@ use Rattle.base.proofs.Cases.{and-left, and-right}
 pub named-fits : (most v : ℕ) (t n : Bool) → within most n v ≡ true → t ≡ n → t ≡ true → v ≤ most
 named-fits most v t true h p e = leb-true v most h
 named-fits most v t false h p e = absurd (false≢true (sym p ∙ e))
+
+-- a column after a Set that fits: in its range, where it was before
+pub stored-within : (most : ℕ) (n : Bool) (new old : ℕ) → within most n new ≡ true → old ≤ most → cond n new old ≤ most
+stored-within most true new old e h = leb-true new most e
+stored-within most false new old e h = h
 
 -- the range test, where the mask names the column and where it does not
 pub within-named : (most v : ℕ) (t n : Bool) → t ≡ n → t ≡ true → leb v most ≡ within most n v

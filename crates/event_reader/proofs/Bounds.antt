@@ -3,11 +3,11 @@ use mathlib.Core.Path.{_≡_, refl}
 use Prim.Native.Nat.{ℕ, suc, _+_, _*_, _%_, _≤_}
 use native.Mathlib.Omega.{arith}
 use mathlib.Core.List.{List, [], _∷_}
-use mathlib.Core.Bool.{Bool, true, false, cond}
+use mathlib.Core.Bool.{Bool, true, false}
 use lib.Dec.{eqb, ltb}
 use lib.ListN.{length, drop, drop-of-length-le, length-drop}
 use borrow.Author.Tests.{ltb-true, ltb-false}
-use Rattle.base.proofs.Cases.{cond-either}
+use Rattle.base.proofs.Cases.{cond-both}
 use Rattle.numbers.specs.Groups.{Found, found, none, prefixed, numberFrom, numberAt}
 
 -- what was found ends between two places
@@ -15,14 +15,11 @@ abbrev pub NumberIn : ℕ → ℕ → Found → Type 0
 NumberIn a z (found v n) = (a ≤ n) × (n ≤ z)
 NumberIn a z none = Unit {0}
 
-pub number-either : (a z : ℕ) (b : Bool) (x y : Found) → NumberIn a z x → NumberIn a z y → NumberIn a z (cond b x y)
-number-either a z b x y p q = cond-either (NumberIn a z) b x y (λ e. p) (λ e. q)
-
 -- a number takes at least one byte
 
 prefix-from : (a z b : ℕ) (f : Found) → NumberIn a z f → NumberIn a z (prefixed b f)
 prefix-from a z b (found v n) h =
-    number-either a z (eqb v 0) none _ tt (number-either a z (ltb (b % 128 + 128 * v) 18446744073709551616) (found (b % 128 + 128 * v) n) none h tt)
+    cond-both (NumberIn a z) (eqb v 0) none _ tt (cond-both (NumberIn a z) (ltb (b % 128 + 128 * v) 18446744073709551616) (found (b % 128 + 128 * v) n) none h tt)
 prefix-from a z b none h = tt
 
 number-later : (a b y z : ℕ) (f : Found) → a ≤ b → y ≤ z → NumberIn b y f → NumberIn a z f
@@ -33,7 +30,7 @@ number-past : (at : ℕ) (bytes : List ℕ) → NumberIn (at + 1) (at + length b
 unfolding numberFrom
 number-past at [] = tt
 number-past at (b ∷ bytes) =
-    number-either (at + 1) (at + suc (length bytes)) (ltb b 128) (found b (at + 1)) _ (omega arith, omega arith)
+    cond-both (NumberIn (at + 1) (at + suc (length bytes))) (ltb b 128) (found b (at + 1)) _ (omega arith, omega arith)
     (prefix-from (at + 1) (at + suc (length bytes)) b (numberFrom (at + 1) bytes)
     (number-later (at + 1) (at + 1 + 1) (at + 1 + length bytes) (at + suc (length bytes)) (numberFrom (at + 1) bytes) (omega arith) (omega arith)
     (number-past (at + 1) bytes)))

@@ -8,7 +8,7 @@ use lib.Dec.{eqb, leb, ltb}
 use lib.ListN.{length}
 use borrow.Author.Tests.{leb-true}
 use Rattle.base.specs.Columns.{named}
-use Rattle.base.proofs.Cases.{cond-either}
+use Rattle.base.proofs.Cases.{cond-both}
 use Rattle.numbers.specs.Groups.{Found, found, none, numberAt}
 use Rattle.sensor_set.specs.Columns.{sensorMasks}
 use Rattle.token_reader.specs.Read.{mostTokenBytes}
@@ -42,7 +42,7 @@ use Rattle.event_reader.specs.Fields.{
   ofKind,
   eventAt,
 }
-use Rattle.event_reader.proofs.Bounds.{NumberIn, number-either, number-at, number-here}
+use Rattle.event_reader.proofs.Bounds.{NumberIn, number-at, number-here}
 use Rattle.event_reader.proofs.Chains.{threeAt}
 
 -- what was found ends between two places
@@ -55,19 +55,12 @@ abbrev EventIn : ℕ → ℕ → Parsed → Type 0
 EventIn a z (event e n) = (a ≤ n) × (n ≤ z)
 EventIn a z broken = Unit {0}
 
--- either arm of a test
-stretch-either : (a z : ℕ) (b : Bool) (x y : Stretch) → StretchIn a z x → StretchIn a z y → StretchIn a z (cond b x y)
-stretch-either a z b x y p q = cond-either (StretchIn a z) b x y (λ e. p) (λ e. q)
-
-event-either : (a z : ℕ) (b : Bool) (x y : Parsed) → EventIn a z x → EventIn a z y → EventIn a z (cond b x y)
-event-either a z b x y p q = cond-either (EventIn a z) b x y (λ e. p) (λ e. q)
-
 event-later : (a b z : ℕ) (p : Parsed) → a ≤ b → EventIn b z p → EventIn a z p
 event-later a b z (event e n) h k = (omega (arith, h, k .0), k .1)
 event-later a b z broken h k = tt
 
 column-at : (s : List ℕ) (at mask bit : ℕ) → at ≤ length s → NumberIn at (length s) (columnAt s at mask bit)
-column-at s at mask bit h = number-either at (length s) (named bit mask) (numberAt s at) (found 0 at) (number-here s at) (omega arith, h)
+column-at s at mask bit h = cond-both (NumberIn at (length s)) (named bit mask) (numberAt s at) (found 0 at) (number-here s at) (omega arith, h)
 
 -- fields one after the other
 
@@ -77,7 +70,7 @@ on-field a z none k h c = tt
 
 stretch-at : (s : List ℕ) (at : ℕ) (f : Found) → NumberIn at (length s) f → StretchIn at (length s) (stretchAt s f)
 stretch-at s at (found size n) h =
-    stretch-either at (length s) (leb size mostTokenBytes) _ cut (go (leb size (length s - n)) refl) tt
+    cond-both (StretchIn at (length s)) (leb size mostTokenBytes) _ cut (go (leb size (length s - n)) refl) tt
   where
     go : (t : Bool) → leb size (length s - n) ≡ t → StretchIn at (length s) (cond t (stretch n size (n + size)) cut)
     go true p = (omega (arith, h .0), omega (arith, h .1, leb-true size (length s - n) p))
@@ -86,7 +79,7 @@ stretch-at s at none h = tt
 
 expression-at : (s : List ℕ) (at mask : ℕ) → at ≤ length s → StretchIn at (length s) (expressionAt s at mask)
 expression-at s at mask h =
-    stretch-either at (length s) (named 32 mask) (stretchAt s (numberAt s at)) (stretch 0 0 at) (stretch-at s at (numberAt s at) (number-here s at)) (omega arith, h)
+    cond-both (StretchIn at (length s)) (named 32 mask) (stretchAt s (numberAt s at)) (stretch 0 0 at) (stretch-at s at (numberAt s at) (number-here s at)) (omega arith, h)
 
 on-tokens : (s : List ℕ) (a z : ℕ) (f : Stretch) (k : List ℕ → ℕ → Parsed) → StretchIn a z f → ((l : List ℕ) (n : ℕ) → n ≤ z → EventIn n z (k l n))
     → EventIn a z (fieldTokens s f k)
@@ -143,7 +136,7 @@ on-five s at mask h k g =
 on-set : (s : List ℕ) (at most : ℕ) (k : ℕ → ℕ → ℕ → Parsed) → ((row mask n : ℕ) → n ≤ length s → EventIn n (length s) (k row mask n))
     → EventIn (at + 1) (length s) (field (numberAt s at) (λ row at. field (numberAt s at) (λ mask at. cond (ltb mask most) (k row mask at) broken)))
 on-set s at most k c =
-    on-first s at _ (λ row a ha. on-number s a _ (λ mask b hb. event-either b (length s) (ltb mask most) (k row mask b) broken (c row mask b hb) tt))
+    on-first s at _ (λ row a ha. on-number s a _ (λ mask b hb. cond-both (EventIn b (length s)) (ltb mask most) (k row mask b) broken (c row mask b hb) tt))
 
 from-sensor-set : (s : List ℕ) (at : ℕ) → EventIn (at + 1) (length s) (sensorSetAt s at)
 unfolding sensorSetAt
@@ -165,7 +158,7 @@ AllIn s at (k ∷ l) = EventIn (at + 1) (length s) (k .fields s at) × AllIn s a
 among-in : (l : List KindAt) (n : ℕ) (s : List ℕ) (at : ℕ) → AllIn s at l → EventIn (at + 1) (length s) (among l n s at)
 among-in [] n s at h = tt
 among-in (k ∷ l) n s at h =
-    event-either (at + 1) (length s) (eqb n (k .number)) (k .fields s at) (among l n s at) (h .0) (among-in l n s at (h .1))
+    cond-both (EventIn (at + 1) (length s)) (eqb n (k .number)) (k .fields s at) (among l n s at) (h .0) (among-in l n s at (h .1))
 
 of-kind : (kind : ℕ) (s : List ℕ) (at : ℕ) → EventIn (at + 1) (length s) (ofKind kind s at)
 of-kind kind s at = among-in kinds kind s at

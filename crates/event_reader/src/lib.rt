@@ -1,6 +1,5 @@
 // One event of a script (document 01, 'Script'): its kind and its fields, read at their places.
 ghost use mathlib.Core.Path.{_≡_};
-ghost use Prim.Native.Nat.{_<_};
 ghost use mathlib.Core.Bool.{cond};
 ghost use lib.Dec.{eqb};
 ghost use Rattle.numbers.specs.Groups.{foundIn};

@@ -1,7 +1,7 @@
 // The events of a script, one after the other, on a drive that this crate owns: an event stores one sensor, one row, the spans or the
 // sensors, and then the rows that are lockable (a side enabled and not locked) may lock. The drive goes by value only where a timer ends while
 // a row may be lockable.
-ghost use mathlib.Core.Bool.{not, cond, _&&_, _||_, Bool·beq};
+ghost use mathlib.Core.Bool.{not, cond, Bool·beq};
 ghost use mathlib.Core.List.{map};
 ghost use mathlib.Core.Path.{_≡_};
 ghost use Prim.Native.Nat.{_≤_};

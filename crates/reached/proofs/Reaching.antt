@@ -1,16 +1,16 @@
 -- Every drive that events reach: the fresh one of a header in range, and what each event makes of one.
 use mathlib.Core.Path.{_≡_, refl, ap}
-use Prim.Native.Nat.{ℕ, zero, suc, _≤_, _<_}
+use Prim.Native.Nat.{ℕ, zero, suc, _<_}
 use native.Mathlib.Omega.{arith}
-use mathlib.Core.Bool.{Bool, true, false, not, cond}
+use mathlib.Core.Bool.{Bool, true, false, not}
 use mathlib.Core.List.{List, [], _∷_, map}
 use lib.Dec.{eqb, leb, ltb}
 use lib.ListN.{length, replicate}
 use borrow.Author.Tests.{leb-true, eqb-true, not-false}
-use Rattle.base.specs.Columns.{named, within}
+use Rattle.base.specs.Columns.{named}
 use Rattle.base.specs.Rows.{isRow}
 use Rattle.base.proofs.Cases.{cond-either, neither}
-use Rattle.base.proofs.Columns.{each-holds}
+use Rattle.base.proofs.Columns.{each-holds, stored-within}
 use Rattle.base.proofs.Refusals.{appliesAt}
 use Rattle.base.proofs.Rows.{row-is}
 use Rattle.base.proofs.Jumps.{ticks-keep}
@@ -65,16 +65,11 @@ read-stored : (tokens : List ℕ) (o : TokenOutcome) → Bytes tokens → readTo
 read-stored tokens (elements es) k e = let f = read-fits tokens es k e in record { list = es; same = refl; few = f .0; fit = f .1 }
 read-stored tokens (refusal n) k e = record { list = []; same = refl; few = omega arith; fit = tt }
 
--- a column after a Set that fits
-either-within : (b : Bool) (most new old : ℕ) → old ≤ most → within most b new ≡ true → cond b new old ≤ most
-either-within true most new old h e = leb-true new most e
-either-within false most new old h e = h
-
 formed-fits : (c : BandColumns) (tokens : List ℕ) → columnsFit c ≡ true → Bytes tokens → (row : Row) → RowFits row
     → RowFits (formedFrom c tokens row)
 unfolding formedRow
 formed-fits c tokens e k row r = record {
-  «lock_on_reset» = either-within (named 16 (c .mask)) _ (c .«lock_on_reset») (row .«lock_on_reset») (r .«lock_on_reset») (fitting c e .«lock_on_reset»);
+  «lock_on_reset» = stored-within _ (named 16 (c .mask)) (c .«lock_on_reset») (row .«lock_on_reset») (fitting c e .«lock_on_reset») (r .«lock_on_reset»);
   expression =
       cond-either Stored (named 32 (c .mask)) (expressionIn (readTokens tokens)) (row .expression)
       (λ q. read-stored tokens (readTokens tokens) k refl) (λ q. r .expression);

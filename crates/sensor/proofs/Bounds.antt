@@ -3,7 +3,7 @@ use Prim.Native.Nat.{ℕ, _-_, _≤_}
 use native.Mathlib.Omega.{arith}
 use mathlib.Core.Bool.{Bool, cond, Bool·beq}
 use lib.Dec.{eqb, ltb}
-use Rattle.base.proofs.Cases.{cond-either}
+use Rattle.base.proofs.Cases.{cond-both}
 use Rattle.phases.specs.declared.Phase.{Phase}
 use Rattle.phases.specs.declared.Phase.the-variants.{SS0, ST0, SS1, ST1, SS2}
 use Rattle.phases.specs.declared.Move.{Move}
@@ -15,9 +15,6 @@ use Rattle.sensor.specs.declared.single.Sensor.{Sensor}
 use Rattle.sensor.specs.Level.{greatestReading}
 use Rattle.sensor.specs.Single.{greatestNumber, freshSensor, withLevel, withTimer, timerIn, movedBy, afterCause, judgeOf, turnCause, turnedTo, readingOf, enableCause, enableOf, disableOf, powerCycleOf, sensorTick}
 use Rattle.sensor.specs.Sound.{Timed}
-
-either : (b : Bool) (x y : Sensor) → Timed x → Timed y → Timed (cond b x y)
-either b x y f g = cond-either Timed b x y (λ e. f) (λ e. g)
 
 pub fresh-timed : Timed freshSensor
 unfolding freshSensor
@@ -42,14 +39,14 @@ step-timed c s h = moved-timed (moveOf (s .phase) c) (levelAfter c (s .level)) s
 pub reading-timed : (v : ℕ) (s : Sensor) → Timed s → Timed (readingOf v s)
 unfolding readingOf turnedTo
 reading-timed v s h =
-    either (ltb greatestReading v) s (turnedTo (judgeOf v s) s) h
-    (either (Bool·beq (judgeOf v s) (s .level)) s (afterCause (turnCause (judgeOf v s) s) s) h (step-timed (turnCause (judgeOf v s) s) s h))
+    cond-both Timed (ltb greatestReading v) s (turnedTo (judgeOf v s) s) h
+    (cond-both Timed (Bool·beq (judgeOf v s) (s .level)) s (afterCause (turnCause (judgeOf v s) s) s) h (step-timed (turnCause (judgeOf v s) s) s h))
 
 pub tick-timed : (s : Sensor) → Timed s → Timed (sensorTick s)
 unfolding sensorTick
 tick-timed s h =
-    either (eqb (s .timer) 0) s (cond (eqb (s .timer) 1) (afterCause TimerEnds s) (withTimer (s .timer - 1) s)) h
-    (either (eqb (s .timer) 1) (afterCause TimerEnds s) (withTimer (s .timer - 1) s) (step-timed TimerEnds s h)
+    cond-both Timed (eqb (s .timer) 0) s (cond (eqb (s .timer) 1) (afterCause TimerEnds s) (withTimer (s .timer - 1) s)) h
+    (cond-both Timed (eqb (s .timer) 1) (afterCause TimerEnds s) (withTimer (s .timer - 1) s) (step-timed TimerEnds s h)
     (record { on = h .on; off = h .off; timer = omega (arith, h .timer) }))
 
 pub cycle-timed : (s : Sensor) → Timed s → Timed (powerCycleOf s)

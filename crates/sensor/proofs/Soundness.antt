@@ -5,6 +5,7 @@ use Prim.Native.Nat.{ℕ, zero, suc, _-_}
 use native.Mathlib.Omega.{arith}
 use lib.Dec.{eqb, ltb}
 use borrow.Author.Tests.{eqb-false}
+use Rattle.base.proofs.Cases.{cond-either}
 use Rattle.phases.specs.declared.Phase.{Phase}
 use Rattle.phases.specs.declared.Phase.the-variants.{SS0, ST0, SS1, ST1, SS2}
 use Rattle.phases.specs.declared.Move.{Move}
@@ -152,19 +153,14 @@ turn-meets : (l : Bool) (s : Sensor) → Meets (turnCause l s) s
 turn-meets true s = by-timeout (s .«on_timeout») TrueAtOnce TrueWaiting s tt (λ n. n)
 turn-meets false s = by-timeout (s .«off_timeout») FalseAtOnce FalseWaiting s tt (λ n. n)
 
--- either arm of a test keeps a sensor sound
-either : (b : Bool) (x y : Sensor) → (b ≡ true → Sound x) → (b ≡ false → Sound y) → Sound (cond b x y)
-either true x y f g = f refl
-either false x y f g = g refl
-
 pub turn-sound : (l : Bool) (s : Sensor) → Sound s → Sound (turnedTo l s)
 unfolding turnedTo
 turn-sound l s h =
-    either (Bool·beq l (s .level)) s (afterCause (turnCause l s) s) (λ e. h) (λ e. step-sound (turnCause l s) s (turn-meets l s) h)
+    cond-either Sound (Bool·beq l (s .level)) s (afterCause (turnCause l s) s) (λ e. h) (λ e. step-sound (turnCause l s) s (turn-meets l s) h)
 
 pub reading-sound : (v : ℕ) (s : Sensor) → Sound s → Sound (readingOf v s)
 unfolding readingOf
-reading-sound v s h = either (ltb greatestReading v) s (turnedTo (judgeOf v s) s) (λ e. h) (λ e. turn-sound (judgeOf v s) s h)
+reading-sound v s h = cond-either Sound (ltb greatestReading v) s (turnedTo (judgeOf v s) s) (λ e. h) (λ e. turn-sound (judgeOf v s) s h)
 
 -- fewer ticks to go, and some left where the sensor waits
 later : (s : Sensor) (t : ℕ) (p : Phase) → (s .timer ≡ 0 → t ≡ 0) → (t ≡ 0 → s .timer ≡ 0) → TimerAgrees p (s .timer) → TimerAgrees p t
@@ -186,8 +182,8 @@ timer-sound s t f g h = record {
 pub tick-sound : (s : Sensor) → Sound s → Sound (sensorTick s)
 unfolding sensorTick
 tick-sound s h =
-    either (eqb (s .timer) 0) s _ (λ e. h)
-    (λ e. either (eqb (s .timer) 1) (afterCause TimerEnds s) (withTimer (s .timer - 1) s) (λ f. step-sound TimerEnds s tt h)
+    cond-either Sound (eqb (s .timer) 0) s _ (λ e. h)
+    (λ e. cond-either Sound (eqb (s .timer) 1) (afterCause TimerEnds s) (withTimer (s .timer - 1) s) (λ f. step-sound TimerEnds s tt h)
     (λ f. timer-sound s (s .timer - 1) (omega arith) (λ z. absurd (more (eqb-false (s .timer) 0 e) (eqb-false (s .timer) 1 f) z)) h))
   where
     more : (s .timer ≡ 0 → ⊥) → (s .timer ≡ 1 → ⊥) → s .timer - 1 ≡ 0 → ⊥

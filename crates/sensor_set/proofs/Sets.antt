@@ -1,11 +1,10 @@
 -- What a Set keeps of a sensor: one that is sound stays so, and no timeout and no timer comes to exceed the range of timeouts.
 use mathlib.Core.Path.{_≡_}
-use Prim.Native.Nat.{ℕ, _≤_}
-use mathlib.Core.Bool.{Bool, true, false, cond}
+use mathlib.Core.Bool.{true, cond}
 use lib.Dec.{eqb}
-use borrow.Author.Tests.{leb-true}
-use Rattle.base.specs.Columns.{named, within}
+use Rattle.base.specs.Columns.{named}
 use Rattle.base.proofs.Cases.{cond-either}
+use Rattle.base.proofs.Columns.{stored-within}
 use Rattle.sensor.specs.declared.single.Sensor.{Sensor}
 use Rattle.sensor.specs.Single.{greatestNumber, greatestFraction, enableOf, disableOf}
 use Rattle.sensor.specs.Sound.{Sound, Timed}
@@ -14,11 +13,6 @@ use Rattle.sensor.proofs.Bounds.{enable-timed, disable-timed}
 use Rattle.sensor_set.specs.declared.SensorColumns.{SensorColumns}
 use Rattle.sensor_set.specs.Columns.{columnsFit, storedOf, switchedOf, setOf}
 use Rattle.sensor_set.proofs.Fits.{fitting}
-
--- a column that a Set names is in its range
-column : (most : ℕ) (n : Bool) (new old : ℕ) → within most n new ≡ true → old ≤ most → cond n new old ≤ most
-column most true new old e h = leb-true new most e
-column most false new old e h = h
 
 -- what enabling, disabling and storing columns that fit keep, a Set keeps
 module _ (P : Sensor → Type 0) (enabled : (s : Sensor) → P s → P (enableOf s)) (disabled : (s : Sensor) → P s → P (disableOf s)) where
@@ -41,8 +35,8 @@ stored-sound c s e h = record {
   timer = h .timer;
   level = h .level;
   condition = h .condition;
-  «on_fraction» = column greatestFraction (named 4 (c .mask)) (c .«on_fraction») (s .«on_fraction») (fitting c e .«on_fraction») (h .«on_fraction»);
-  «off_fraction» = column greatestFraction (named 32 (c .mask)) (c .«off_fraction») (s .«off_fraction») (fitting c e .«off_fraction») (h .«off_fraction»);
+  «on_fraction» = stored-within greatestFraction (named 4 (c .mask)) (c .«on_fraction») (s .«on_fraction») (fitting c e .«on_fraction») (h .«on_fraction»);
+  «off_fraction» = stored-within greatestFraction (named 32 (c .mask)) (c .«off_fraction») (s .«off_fraction») (fitting c e .«off_fraction») (h .«off_fraction»);
 }
 
 pub set-sound : (c : SensorColumns) (s : Sensor) → Sound s → Sound (setOf c s)
@@ -53,8 +47,8 @@ set-sound = set-keeps Sound enable-sound disable-sound stored-sound
 stored-timed : (c : SensorColumns) (s : Sensor) → columnsFit c ≡ true → Timed s → Timed (storedOf c s)
 unfolding storedOf
 stored-timed c s e h = record {
-  on = column greatestNumber (named 8 (c .mask)) (c .«on_timeout») (s .«on_timeout») (fitting c e .«on_timeout») (h .on);
-  off = column greatestNumber (named 64 (c .mask)) (c .«off_timeout») (s .«off_timeout») (fitting c e .«off_timeout») (h .off);
+  on = stored-within greatestNumber (named 8 (c .mask)) (c .«on_timeout») (s .«on_timeout») (fitting c e .«on_timeout») (h .on);
+  off = stored-within greatestNumber (named 64 (c .mask)) (c .«off_timeout») (s .«off_timeout») (fitting c e .«off_timeout») (h .off);
   timer = h .timer;
 }
 

@@ -1,7 +1,6 @@
 // A Set of one sensor's columns (document 01, 'Sensors'): its answer and the sensor after it.
 ghost use mathlib.Core.Path.{_≡_};
 ghost use mathlib.Core.Bool.{true, cond};
-ghost use Prim.Native.Nat.{_<_};
 ghost use Rattle.base.specs.Columns.{named, within};
 ghost use Rattle.sensor.specs.Single.{greatestNumber, Answers};
 ghost use Rattle.sensor_set.specs.Columns.{columnsFit, setAnswer, storedOf, switchedOf, setOf};

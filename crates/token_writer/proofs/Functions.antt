@@ -2,12 +2,12 @@
 use mathlib.Core.Path.{_≡_, refl, sym, ap, _∙_}
 use Prim.Native.Nat.{ℕ, zero, suc, _+_, _-_, _<_, _≤_}
 use native.Mathlib.Omega.{arith}
-use mathlib.Core.Bool.{Bool, true, false, cond}
 use mathlib.Core.List.{List}
 use lib.Dec.{eqb, ltb}
 use lib.ListN.{length, getD, take, drop, replicate, length-map}
 use lib.Seq.{take-append-seam}
 use borrow.Author.Tests.{le-ltb}
+use Rattle.base.proofs.Cases.{cond-both}
 use Rattle.base.specs.Spliced.{spliced}
 use Rattle.answer.specs.Numbers.{numberOf}
 use Rattle.expression.specs.declared.Element.{Element}
@@ -66,10 +66,6 @@ abbrev Told : TokenOutcome → Type 0
 Told (elements es) = Unit {0}
 Told (refusal n) = 0 < n
 
-either : (t : Bool) (x y : TokenOutcome) → Told x → Told y → Told (cond t x y)
-either true x y p q = p
-either false x y p q = q
-
 before-told : (e : Element) (o : TokenOutcome) → Told o → Told (before e o)
 before-told e (elements es) h = h
 before-told e (refusal n) h = h
@@ -80,14 +76,14 @@ then-told bytes Broken follow h = omega arith
 
 elements-told : (room : ℕ) (bytes : List ℕ) → Told (readElements room bytes)
 unfolding readElements
-elements-told zero bytes = either (isEnd bytes) _ _ tt (either (eqb (getD bytes 0 0) 0xF2) (refusal 4) (refusal 3) (omega arith) (omega arith))
-elements-told (suc room) bytes = either (isEnd bytes) _ _ tt (then-told bytes (partIn bytes) _ (λ rest. elements-told room rest))
+elements-told zero bytes = cond-both Told (isEnd bytes) _ _ tt (cond-both Told (eqb (getD bytes 0 0) 0xF2) (refusal 4) (refusal 3) (omega arith) (omega arith))
+elements-told (suc room) bytes = cond-both Told (isEnd bytes) _ _ tt (then-told bytes (partIn bytes) _ (λ rest. elements-told room rest))
 
 told : (bytes : List ℕ) → Told (readTokens bytes)
 unfolding readTokens readList
 told bytes =
-    either (ltb mostTokenBytes (length bytes)) (refusal 2) _ (omega arith)
-    (either (eqb (getD bytes 0 0) 0xF0) _ (refusal 3) (elements-told 32 (drop 1 bytes)) (omega arith))
+    cond-both Told (ltb mostTokenBytes (length bytes)) (refusal 2) _ (omega arith)
+    (cond-both Told (eqb (getD bytes 0 0) 0xF0) _ (refusal 3) (elements-told 32 (drop 1 bytes)) (omega arith))
 
 -- an answer of 0 comes with elements
 answered : {P : Type 0} (o : TokenOutcome) → Told o → answerIn o ≡ 0 → ((es : List Element) → o ≡ elements es → P) → P
