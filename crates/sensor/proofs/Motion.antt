@@ -142,7 +142,11 @@ pub step-keeps : (c : Cause) (s : Sensor) → isWaiting (afterCause c s .phase) 
 unfolding afterCause
 step-keeps c s e = move-keeps (moveOf (s .phase) c) (withLevel (levelAfter c (s .level)) s) e
 
--- ---- the fresh sensor stays as it is
+-- ---- the fresh sensor: its condition is FALSE, and it stays as it is
+
+pub fresh-condition : freshSensor .condition ≡ false
+unfolding freshSensor
+fresh-condition = refl
 
 pub fresh-tick : sensorTick freshSensor ≡ freshSensor
 unfolding sensorTick freshSensor

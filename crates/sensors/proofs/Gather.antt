@@ -8,6 +8,7 @@ use mathlib.Core.List.{List, [], _∷_}
 use lib.ListN.{length, getD, set, replicate}
 use Rattle.sensor.specs.declared.single.Sensor.{Sensor}
 use Rattle.sensor.specs.Single.{freshSensor}
+use Rattle.sensor.proofs.Motion.{fresh-condition}
 use Rattle.sensors.specs.Sixteen.{conditionsBelow}
 
 pub record Gathered (n count : ℕ) (l : List Sensor) (m : List Bool) (i : ℕ) : Type 0 where
@@ -58,9 +59,9 @@ gather-done n count l m i t h = t .same ∙ whole i count l (omega (arith, t .lo
 
 -- below the count it is the sensor's, and at or above it FALSE
 pub condition-below : (n : ℕ) (l : List Sensor) (r : ℕ) → r < n → getD (conditionsBelow n l) r false ≡ getD l r freshSensor .condition
-unfolding conditionsBelow freshSensor
+unfolding conditionsBelow
 condition-below zero l r h = absurd (omega arith)
-condition-below (suc n) [] r h = refl
+condition-below (suc n) [] r h = sym fresh-condition
 condition-below (suc n) (s ∷ l) zero h = refl
 condition-below (suc n) (s ∷ l) (suc r) h = condition-below n l r (omega arith)
 
