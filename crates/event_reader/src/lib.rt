@@ -3,7 +3,7 @@ ghost use mathlib.Core.Path.{_≡_};
 ghost use mathlib.Core.Bool.{cond};
 ghost use lib.Dec.{eqb};
 ghost use Rattle.numbers.specs.Groups.{foundIn};
-ghost use Rattle.event_reader.specs.Fields.{columnAt, Follow, firstColumnsAt, expressionAt, parsedIn, readingAt, elapseAt, resetAt, sensorSetAt, bandSetAt, geometryAt, transferAt, eventAt};
+ghost use Rattle.event_reader.specs.Fields.{columnAt, firstColumnsAt, expressionAt, parsedIn, readingAt, elapseAt, resetAt, sensorSetAt, bandSetAt, geometryAt, transferAt, eventAt};
 ghost use Rattle.event_reader.specs.Parts.{firstColumnsIn, bytesReadIn};
 use band_columns::BandColumns;
 use drive::Kind;
@@ -90,7 +90,7 @@ fn reset_at(script: &[u8], at: usize) -> EventRead
 
 // The columns of bits 1 to 16, with which the values of either Set begin.
 fn first_columns_at(script: &[u8], at: usize, mask: u64) -> FirstColumns
-    ensures { λ r. ⌜ ((follow : Follow) → firstColumnsIn r follow ≡ firstColumnsAt (now (script .entry)) at mask follow) ⌝ }
+    ensures { λ r. ⌜ firstColumnsIn r ≡ firstColumnsAt (now (script .entry)) at mask ⌝ }
 {
     let Number::Is(first, at1) = column_at(script, at, mask, 1) else {
         return FirstColumns::Bad;

@@ -62,14 +62,15 @@ one-more (x ∷ done) rest e = ap (λ l. x ∷ l) (one-more done rest e)
 -- ---- the next event of a script
 
 -- the event that reads is the first of those that are left, and where none reads none is left
-first-reads : (n : ℕ) (s : List ℕ) (at : ℕ) (e : Event) (next : ℕ) → eventAt s at ≡ event e next → firstEvents (suc n) s at ≡ e ∷ firstEvents n s next
+first-reads : (n : ℕ) (s : List ℕ) (at answer : ℕ) (e : Event) (start count next : ℕ) → eventAt s at ≡ event answer e start count next
+    → firstEvents (suc n) s at ≡ e ∷ firstEvents n s next
 unfolding firstEvents
-first-reads n s at e next w = ap (λ (p : Parsed). thenMore p (λ next. firstEvents n s next)) w
+first-reads n s at answer e start count next w = ap (λ (p : Parsed). thenMore p (λ next. firstEvents n s next)) w
 
-first-broken : (n : ℕ) (s : List ℕ) (at : ℕ) → eventAt s at ≡ broken → firstEvents n s at ≡ []
+first-broken : (n : ℕ) (s : List ℕ) (at answer : ℕ) → eventAt s at ≡ broken answer → firstEvents n s at ≡ []
 unfolding firstEvents
-first-broken zero s at w = refl
-first-broken (suc n) s at w = ap (λ (p : Parsed). thenMore p (λ next. firstEvents n s next)) w
+first-broken zero s at answer w = refl
+first-broken (suc n) s at answer w = ap (λ (p : Parsed). thenMore p (λ next. firstEvents n s next)) w
 
 first-none : (n : ℕ) (s : List ℕ) (at : ℕ) → n ≡ 0 → firstEvents n s at ≡ []
 unfolding firstEvents
@@ -118,7 +119,7 @@ pub run-broken : (s : List ℕ) (start count : ℕ) (fresh : Drive) (answers₀ 
     → RunSoFar s start count fresh answers₀ stops₀ d answers stops at i o → parsedIn s r ≡ eventAt s at → r ≡ R.Bad
     → after d answers stops ≡ eventsRun fresh (firstEvents count s start) answers₀ stops₀
 run-broken s start count fresh answers₀ stops₀ d answers stops at i o r g e q =
-    run-end s start count fresh answers₀ stops₀ d answers stops at i o g (first-broken (count - i) s at (sym e ∙ ap (parsedIn s) q))
+    run-end s start count fresh answers₀ stops₀ d answers stops at i o g (first-broken (count - i) s at 10 (sym e ∙ ap (parsedIn s) q))
 
 -- the event that is next
 pub record Next (s : List ℕ) (start count : ℕ) (fresh : Drive) (answers₀ stops₀ : List ℕ) (d : Drive) (answers stops : List ℕ) (at i : ℕ) (o : Bool) (k : Kind) (b c n : ℕ) : Type 0 where
@@ -126,7 +127,7 @@ pub record Next (s : List ℕ) (start count : ℕ) (fresh : Drive) (answers₀ s
   pub some : i < count
   pub long : count ≤ length answers₀
   pub wide : count ≤ length stops₀
-  pub here : eventAt s at ≡ event (eventOf k (tokensAt s b c)) n
+  pub here : eventAt s at ≡ event 0 (eventOf k (tokensAt s b c)) b c n
 
 pub next : {s : List ℕ} {start count : ℕ} {fresh : Drive} {answers₀ stops₀ : List ℕ} {d : Drive} {answers stops : List ℕ} {at i : ℕ} {o : Bool} {r : EventRead} {k : Kind} {b c n : ℕ}
     → RunSoFar s start count fresh answers₀ stops₀ d answers stops at i o → i < count → (count ≤ length answers₀) × (count ≤ length stops₀) → parsedIn s r ≡ eventAt s at → r ≡ R.Is k b c n
@@ -186,7 +187,7 @@ run-again {s = s} {count = count} {fresh = fresh} {answers₀ = answers₀} {sto
     stops-are = set-along stopsOf fresh es e stops₀ stops i z (g .sofar .far) (omega (arith, g .some, g .wide)) (cc) (v .stops ∙ ap (λ (y : Drive). stopsOf y e) same)
 
     left : firstEvents (count - i) s at ≡ e ∷ firstEvents (count - (i + 1)) s n
-    left = ap (λ (m : ℕ). firstEvents m s at) (let h = g .some in omega (arith, h)) ∙ first-reads (count - (i + 1)) s at e n (g .here)
+    left = ap (λ (m : ℕ). firstEvents m s at) (let h = g .some in omega (arith, h)) ∙ first-reads (count - (i + 1)) s at 0 e b c n (g .here)
 
 -- "at most the number of timers running at its start", and a drive has sixteen
 pub elapse-fits : (d : Drive) (n : ℕ) (r : Elapsed) → Elapses n d r → r .stops ≤ length (d .sensors)

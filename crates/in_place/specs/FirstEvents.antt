@@ -10,8 +10,8 @@ use Rattle.event_reader.specs.Fields.{Parsed, event, broken, eventAt}
 
 -- an event that reads, and those that follow it; none where it does not read
 abbrev pub thenMore : Parsed → (ℕ → List Event) → List Event
-thenMore (event e next) follow = e ∷ follow next
-thenMore broken follow = []
+thenMore (event answer e start count next) follow = e ∷ follow next
+thenMore (broken answer) follow = []
 
 -- the events that read one after the other from a place on, at most so many, ending before the first that does not read
 unfoldable pub firstEvents : ℕ → List ℕ → ℕ → List Event

@@ -1,39 +1,48 @@
 -- Document 01, 'Script': "Every number is in groups of seven bits, low group first, top bit set when more follow. Shortest form only, below
 -- 2^64."
 use mathlib.Core.Path.{_≡_}
-use Prim.Native.Nat.{ℕ, zero, suc, _+_, _*_, _/_, _%_}
+use Prim.Native.Nat.{ℕ, zero, suc, _+_, _*_, _/_, _%_, _<_}
 use mathlib.Core.Bool.{cond}
 use mathlib.Core.List.{List, [], _∷_, _++_}
 use lib.Dec.{eqb, ltb}
-use lib.ListN.{length, drop}
+use lib.ListN.{length, drop, getD}
 use Rattle.numbers.specs.declared.Number.{Number}
 use Rattle.numbers.specs.declared.Number.the-variants.{Is, Bad}
 
--- what stands at a place: a number and the place after it, or none in this form
+-- The answers of every reading, by the table: "0 done", and "10 bad script: the script cannot be read".
+
+abbrev pub done : ℕ
+done = 0
+
+abbrev pub badScript : ℕ
+badScript = 10
+
+-- what reading at a place answers: done, with a number and the place after it, or bad script, where none in this form stands there
 pub data Found : Type 0 where
-  found : (value next : ℕ) → Found
-  none : Found
+  found : (answer value next : ℕ) → Found
+  none : (answer : ℕ) → Found
 
--- the code's answer in these terms
+-- the code's cases by the paper's numbers
 abbrev pub foundIn : Number → Found
-foundIn (Is value next) = found value next
-foundIn Bad = none
+foundIn (Is value next) = found 0 value next
+foundIn Bad = none 10
 
--- a group in front of a number: the number is not 0, or the form would not be the shortest, and the whole is below 2^64
+-- "Shortest form only": a number in front of which a group stands is not 0. "below 2^64": the whole is.
 abbrev pub prefixed : ℕ → Found → Found
-prefixed group (found v next) =
-    let whole = group % 128 + 128 * v in cond (eqb v 0) none (cond (ltb whole 18446744073709551616) (found whole next) none)
-prefixed group none = none
+prefixed group (found answer v next) =
+    let whole = group % 128 + 128 * v in
+    cond (eqb v 0) (none badScript) (cond (ltb whole 18446744073709551616) (found answer whole next) (none badScript))
+prefixed group (none answer) = none answer
 
--- the number that starts the bytes, whose first has the place at
+-- the number that starts the bytes, whose first has the place at; "a cut field" is bad
 unfoldable pub numberFrom : ℕ → List ℕ → Found
-numberFrom at [] = none
-numberFrom at (b ∷ bytes) = cond (ltb b 128) (found b (at + 1)) (prefixed b (numberFrom (at + 1) bytes))
+numberFrom at [] = none badScript
+numberFrom at (b ∷ bytes) = cond (ltb b 128) (found done b (at + 1)) (prefixed b (numberFrom (at + 1) bytes))
 
 abbrev pub numberAt : List ℕ → ℕ → Found
 numberAt bytes at = numberFrom at (drop at bytes)
 
--- the groups of a number, at most so many: `its-groups-read` and `only-its-groups` say that these bytes, and no others, read to it
+-- the groups of a number, at most so many
 unfoldable pub groupsOf : ℕ → ℕ → List ℕ
 groupsOf zero v = []
 groupsOf (suc k) v = cond (ltb v 128) (v ∷ []) ((v % 128 + 128) ∷ groupsOf k (v / 128))
@@ -41,3 +50,20 @@ groupsOf (suc k) v = cond (ltb v 128) (v ∷ []) ((v % 128 + 128) ∷ groupsOf k
 -- the bytes start with the groups of a number, at most so many, and the place after them is after them all
 abbrev pub Starts : ℕ → ℕ → List ℕ → ℕ → ℕ → Type 0
 Starts k at s v n = (rest : List ℕ) × (s ≡ groupsOf k v ++ rest) × (n ≡ at + length (groupsOf k v))
+
+-- a list of bytes, as a script is
+abbrev pub AllBytes : List ℕ → Type 0
+AllBytes s = (i : ℕ) → getD s i 0 < 256
+
+-- "Every number is in groups of seven bits, low group first, top bit set when more follow. Shortest form only, below 2^64.": at every place
+-- of a string of bytes
+pub record OneForm : Type 0 where
+  -- the groups of a number below 2^64 read to it, whatever follows them
+  pub its-groups : (at v : ℕ) (rest : List ℕ) → v < 18446744073709551616
+      → numberFrom at (groupsOf 10 v ++ rest) ≡ found done v (at + length (groupsOf 10 v))
+  -- and no other bytes do
+  pub no-other : (at : ℕ) (s : List ℕ) (answer v n : ℕ) → AllBytes s → numberFrom at s ≡ found answer v n → Starts 10 at s v n
+  -- a number that is read is below 2^64, and its answer is done
+  pub within : (at : ℕ) (s : List ℕ) (answer v n : ℕ) → numberFrom at s ≡ found answer v n → (v < 18446744073709551616) × (answer ≡ done)
+  -- what does not read is bad script
+  pub refused : (at : ℕ) (s : List ℕ) (answer : ℕ) → numberFrom at s ≡ none answer → answer ≡ badScript

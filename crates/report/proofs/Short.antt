@@ -33,7 +33,7 @@ use Rattle.event_reader.specs.Fields.{Parsed, event, broken, eventAt}
 use Rattle.script.specs.Events.{Events, events, badFrom, before, andThen}
 use Rattle.script.specs.Whole.{mostScriptBytes, mostEvents, Header, header, noHeader, headerAt, Script, accepted, bad, withEvents, withHeader, readScript}
 use Rattle.script.specs.Parts.{eventsIn, eventsFrom}
-use Rattle.script.proofs.Few.{few-events}
+use Rattle.script.proofs.Few.{AtStart, header-start, few-events}
 use Rattle.run.proofs.Whole.{accepted-is}
 use Rattle.report.specs.Lines.{decimal, fields, line, lines, eventLine, eventLines, bandLine, bandLines, sensorLine, sensorLines, driveLines, badLine}
 use Rattle.report.specs.Listing.{mostListed, listing}
@@ -159,25 +159,25 @@ place-within (suc k) s at place h = go (λ n. place-within k s n place) (ltb at 
 
     go : ((n : ℕ) → eventsIn k s n ≡ badFrom place → place < length s) → (t : Bool) → ltb at (length s) ≡ t → (p : Parsed)
         → cond t (andThen at p (λ n. eventsIn k s n)) (events []) ≡ badFrom place → place < length s
-    go ih true l (event e n) q = after e (eventsIn k s n) (ih n) q
-    go ih true l broken q = let e : at ≡ place = cc in omega (arith, ltb-true at (length s) l, e)
+    go ih true l (event x e y z n) q = after e (eventsIn k s n) (ih n) q
+    go ih true l (broken x) q = let e : at ≡ place = cc in omega (arith, ltb-true at (length s) l, e)
     go ih false l p q = let z : _≡_ {A = ℕ} 0 1 = cc in absurd (omega arith)
 
 bad-place : (s : List ℕ) (place : ℕ) → readScript s ≡ bad place → place < 100000
 unfolding readScript eventsFrom
-bad-place s place q = go (ltb mostScriptBytes (length s)) refl (headerAt s) q
+bad-place s place q = go (ltb mostScriptBytes (length s)) refl (headerAt s) (header-start s) q
   where
     all : (a b c n : ℕ) → length s ≤ mostScriptBytes → (o : Events) → eventsFrom s n ≡ o → withEvents a b c o ≡ bad place → place < 100000
     all a b c n l (events es) p q = let w : _≡_ {A = ℕ} 0 1 = cc in absurd (omega arith)
     all a b c n l (badFrom x) p q = let e : x ≡ place = cc in omega (arith, l, e, place-within _ s n x p)
 
-    zero-place : bad 0 ≡ bad place → place < 100000
-    zero-place q = let e : 0 ≡ place = cc in omega (arith, e)
+    at-start : (x : ℕ) → x ≡ 0 → bad x ≡ bad place → place < 100000
+    at-start x z q = let e : x ≡ place = cc in omega (arith, e, z)
 
-    go : (t : Bool) → ltb mostScriptBytes (length s) ≡ t → (h : Header) → cond t (bad 0) (withHeader s h) ≡ bad place → place < 100000
-    go true l h q = zero-place q
-    go false l (header a b c n) q = let j = ltb-false mostScriptBytes (length s) l in all a b c n (omega (arith, j)) (eventsFrom s n) refl q
-    go false l noHeader q = zero-place q
+    go : (t : Bool) → ltb mostScriptBytes (length s) ≡ t → (h : Header) → AtStart h → cond t (bad 0) (withHeader s h) ≡ bad place → place < 100000
+    go true l h i q = at-start 0 refl q
+    go false l (header x a b c n) i q = let j = ltb-false mostScriptBytes (length s) l in all a b c n (omega (arith, j)) (eventsFrom s n) refl q
+    go false l (noHeader x y) i q = at-start y i q
 
 -- ---- the listing
 

@@ -109,4 +109,8 @@ two-hold s t answers stops answers2 stops2 r q answers' stops' answers2' stops2'
         value = x .value ∙ sym (ap (λ (z : Drive). valueAt z band) d);
         own = x .own ∙ sym (own-are t mostScriptBytes answers2 stops2 q answers2' stops2' p band capacity' bands' sensors' fs y);
       };
+  first-history = λ capacity bands sensors es w.
+      holds s mostScriptBytes answers stops r answers' stops' o .history capacity bands sensors es (whole s r capacity bands sensors es w);
+  second-history = λ capacity bands sensors es w.
+      holds t mostScriptBytes answers2 stops2 q answers2' stops2' p .history capacity bands sensors es (whole t q capacity bands sensors es w);
 }

@@ -1,3 +1,4 @@
 pub mod Taken
 pub mod Whole
 pub mod Holding
+pub mod Reaching

@@ -27,20 +27,20 @@ taken-in (suc n) k s at es h q = go (λ j next fs. taken-in n j s next fs) k (ev
     first ih j e next h (events fs) p q = let w : es ≡ e ∷ fs = cc in rw w (ap (λ (l : List Event). e ∷ l) (ih j next fs h p))
     first ih j e next h (badFrom b) p q = let z : _≡_ {A = ℕ} 0 1 = cc in absurd (omega arith)
 
-    here : Shorter → (j : ℕ) (e : Event) (next : ℕ) → eventAt s at ≡ event e next → length s - at ≤ suc j → (t : Bool) → ltb at (length s) ≡ t
+    here : Shorter → (j x : ℕ) (e : Event) (y z next : ℕ) → eventAt s at ≡ event x e y z next → length s - at ≤ suc j → (t : Bool) → ltb at (length s) ≡ t
         → cond t (before e (eventsIn j s next)) (events []) ≡ events es → e ∷ firstEvents n s next ≡ take (suc n) es
-    here ih j e next p h true t q = first ih j e next (let b = event-within s at e next p in omega (arith, b .0, b .1, h)) (eventsIn j s next) refl q
-    here ih j e next p h false t q = absurd (let b = event-within s at e next p in omega (arith, b .0, b .1, ltb-false at (length s) t))
+    here ih j x e y z next p h true t q = first ih j e next (let b = event-within s at x e y z next p in omega (arith, b .0, b .1, h)) (eventsIn j s next) refl q
+    here ih j x e y z next p h false t q = absurd (let b = event-within s at x e y z next p in omega (arith, b .0, b .1, ltb-false at (length s) t))
 
     none : (t : Bool) → cond t (badFrom at) (events []) ≡ events es → [] ≡ take (suc n) es
     none true q = let z : _≡_ {A = ℕ} 0 1 = cc in absurd (omega arith)
     none false q = let w : es ≡ [] = cc in rw w
 
     go : Shorter → (k : ℕ) (p : Parsed) → eventAt s at ≡ p → length s - at ≤ k → eventsIn k s at ≡ events es → thenMore p (λ next. firstEvents n s next) ≡ take (suc n) es
-    go ih zero (event e next) p h q = absurd (let b = event-within s at e next p in omega (arith, b .0, b .1, h))
-    go ih zero broken p h q = let w : es ≡ [] = cc in rw w
-    go ih (suc j) (event e next) p h q = here ih j e next p h (ltb at (length s)) refl (ap (λ (x : Parsed). cond (ltb at (length s)) (andThen at x (λ m. eventsIn j s m)) (events [])) (sym p) ∙ q)
-    go ih (suc j) broken p h q = none (ltb at (length s)) (ap (λ (x : Parsed). cond (ltb at (length s)) (andThen at x (λ m. eventsIn j s m)) (events [])) (sym p) ∙ q)
+    go ih zero (event x e y z next) p h q = absurd (let b = event-within s at x e y z next p in omega (arith, b .0, b .1, h))
+    go ih zero (broken x) p h q = let w : es ≡ [] = cc in rw w
+    go ih (suc j) (event x e y z next) p h q = here ih j x e y z next p h (ltb at (length s)) refl (ap (λ (x : Parsed). cond (ltb at (length s)) (andThen at x (λ m. eventsIn j s m)) (events [])) (sym p) ∙ q)
+    go ih (suc j) (broken x) p h q = none (ltb at (length s)) (ap (λ (x : Parsed). cond (ltb at (length s)) (andThen at x (λ m. eventsIn j s m)) (events [])) (sym p) ∙ q)
 
 pub taken : (count : ℕ) (s : List ℕ) (at : ℕ) (es : List Event) → eventsFrom s at ≡ events es → firstEvents count s at ≡ take count es
 unfolding eventsFrom

@@ -14,7 +14,7 @@ use Rattle.drive.specs.declared.Drive.{Drive}
 use Rattle.drive.specs.declared.Fresh.{Fresh}
 use Rattle.drive.specs.State.{headerFits, freshDrive, freshOf, Freshens}
 use Rattle.drive.specs.Events.{Event, runOf, answersOf, stopsIn, over}
-use Rattle.numbers.specs.Groups.{Found, found, none, numberAt}
+use Rattle.numbers.specs.Groups.{done, badScript, Found, found, none, numberAt}
 use Rattle.script.specs.declared.HeaderRead.{HeaderRead}
 use Rattle.script.specs.declared.HeaderRead.the-variants as H
 use Rattle.script.specs.declared.Checked.{Checked}
@@ -68,49 +68,50 @@ refused-is answer place r answers stops p = rw (p .answer-is, p .place-is, p .co
 
 pub record Accepted (s : List ℕ) (capacity bands sensors : ℕ) (es : List Event) : Type 0 where
   pub next : ℕ
-  pub head : headerAt s ≡ header capacity bands sensors next
+  pub answer : ℕ
+  pub head : headerAt s ≡ header answer capacity bands sensors next
   pub fits : headerFits capacity bands sensors ≡ true
   pub after : eventsFrom s next ≡ events es
 
 -- a header that is told is in range
-head-fits : (s : List ℕ) (a b c n : ℕ) → headerAt s ≡ header a b c n → headerFits a b c ≡ true
+head-fits : (s : List ℕ) (o a b c n : ℕ) → headerAt s ≡ header o a b c n → headerFits a b c ≡ true
 unfolding headerAt
-head-fits s a b c n h = first (numberAt s 0) h
+head-fits s o a b c n h = first (numberAt s 0) h
   where
-    told : (x y z m : ℕ) (t : Bool) → headerFits x y z ≡ t → cond t (header x y z m) noHeader ≡ header a b c n → headerFits a b c ≡ true
+    told : (x y z m : ℕ) (t : Bool) → headerFits x y z ≡ t → cond t (header done x y z m) (noHeader badScript 0) ≡ header o a b c n → headerFits a b c ≡ true
     told x y z m true p q = let e : x ≡ a = cc in let f : y ≡ b = cc in let g : z ≡ c = cc in rw (← e, ← f, ← g) p
     told x y z m false p q = let w : _≡_ {A = ℕ} 0 1 = cc in absurd (omega arith)
 
-    third : (x y : ℕ) (f : Found) → fieldHeader f (λ z m. cond (headerFits x y z) (header x y z m) noHeader) ≡ header a b c n → headerFits a b c ≡ true
-    third x y (found z m) q = told x y z m (headerFits x y z) refl q
-    third x y none q = let w : _≡_ {A = ℕ} 0 1 = cc in absurd (omega arith)
+    third : (x y : ℕ) (f : Found) → fieldHeader f (λ z m. cond (headerFits x y z) (header done x y z m) (noHeader badScript 0)) ≡ header o a b c n → headerFits a b c ≡ true
+    third x y (found u z m) q = told x y z m (headerFits x y z) refl q
+    third x y (none u) q = let w : _≡_ {A = ℕ} 0 1 = cc in absurd (omega arith)
 
-    second : (x : ℕ) (f : Found) → fieldHeader f (λ y m. fieldHeader (numberAt s m) (λ z m. cond (headerFits x y z) (header x y z m) noHeader)) ≡ header a b c n → headerFits a b c ≡ true
-    second x (found y m) q = third x y (numberAt s m) q
-    second x none q = let w : _≡_ {A = ℕ} 0 1 = cc in absurd (omega arith)
+    second : (x : ℕ) (f : Found) → fieldHeader f (λ y m. fieldHeader (numberAt s m) (λ z m. cond (headerFits x y z) (header done x y z m) (noHeader badScript 0))) ≡ header o a b c n → headerFits a b c ≡ true
+    second x (found u y m) q = third x y (numberAt s m) q
+    second x (none u) q = let w : _≡_ {A = ℕ} 0 1 = cc in absurd (omega arith)
 
-    first : (f : Found) → fieldHeader f (λ x m. fieldHeader (numberAt s m) (λ y m. fieldHeader (numberAt s m) (λ z m. cond (headerFits x y z) (header x y z m) noHeader))) ≡ header a b c n → headerFits a b c ≡ true
-    first (found x m) q = second x (numberAt s m) q
-    first none q = let w : _≡_ {A = ℕ} 0 1 = cc in absurd (omega arith)
+    first : (f : Found) → fieldHeader f (λ x m. fieldHeader (numberAt s m) (λ y m. fieldHeader (numberAt s m) (λ z m. cond (headerFits x y z) (header done x y z m) (noHeader badScript 0)))) ≡ header o a b c n → headerFits a b c ≡ true
+    first (found u x m) q = second x (numberAt s m) q
+    first (none u) q = let w : _≡_ {A = ℕ} 0 1 = cc in absurd (omega arith)
 
 pub accepted-is : (s : List ℕ) (capacity bands sensors : ℕ) (es : List Event) → readScript s ≡ accepted capacity bands sensors es → Accepted s capacity bands sensors es
 unfolding readScript
 accepted-is s capacity bands sensors es q = go (ltb mostScriptBytes (length s)) (headerAt s) refl q
   where
-    all : (a b c n : ℕ) → headerAt s ≡ header a b c n → (o : Events) → eventsFrom s n ≡ o → withEvents a b c o ≡ accepted capacity bands sensors es → Accepted s capacity bands sensors es
-    all a b c n h (events fs) p q =
+    all : (u a b c n : ℕ) → headerAt s ≡ header u a b c n → (o : Events) → eventsFrom s n ≡ o → withEvents a b c o ≡ accepted capacity bands sensors es → Accepted s capacity bands sensors es
+    all u a b c n h (events fs) p q =
         let ea : a ≡ capacity = cc in
         let eb : b ≡ bands = cc in
         let ec : c ≡ sensors = cc in
         let ef : fs ≡ es = cc in
-        let k : headerAt s ≡ header capacity bands sensors n = rw (← ea, ← eb, ← ec) h in
-        record { next = n; head = k; fits = head-fits s capacity bands sensors n k; after = p ∙ ap events ef }
-    all a b c n h (badFrom x) p q = let w : _≡_ {A = ℕ} 0 1 = cc in absurd (omega arith)
+        let k : headerAt s ≡ header u capacity bands sensors n = rw (← ea, ← eb, ← ec) h in
+        record { next = n; answer = u; head = k; fits = head-fits s u capacity bands sensors n k; after = p ∙ ap events ef }
+    all u a b c n h (badFrom x) p q = let w : _≡_ {A = ℕ} 0 1 = cc in absurd (omega arith)
 
     go : (t : Bool) (h : Header) → headerAt s ≡ h → cond t (bad 0) (withHeader s h) ≡ accepted capacity bands sensors es → Accepted s capacity bands sensors es
     go true h p q = let w : _≡_ {A = ℕ} 0 1 = cc in absurd (omega arith)
-    go false (header a b c n) p q = all a b c n p (eventsFrom s n) refl q
-    go false noHeader p q = let w : _≡_ {A = ℕ} 0 1 = cc in absurd (omega arith)
+    go false (header u a b c n) p q = all u a b c n p (eventsFrom s n) refl q
+    go false (noHeader u v) p q = let w : _≡_ {A = ℕ} 0 1 = cc in absurd (omega arith)
 
 -- ---- the arms of a run of a script that reads to its end
 
@@ -133,7 +134,7 @@ module _ (s : List ℕ) (count : ℕ) (answers stops : List ℕ) where
   pub no-header : (h : HeaderRead) (r : Ran) (answers' stops' : List ℕ) → headerIn h ≡ headerAt s → h ≡ H.Bad → RunsFirst s count answers stops r answers' stops'
   no-header h r answers' stops' e w capacity bands sensors es q k =
       let a = accepted-is s capacity bands sensors es q in
-      let n : noHeader ≡ header capacity bands sensors (a .next) = sym (ap headerIn w) ∙ e ∙ a .head in
+      let n : noHeader 10 0 ≡ header (a .answer) capacity bands sensors (a .next) = sym (ap headerIn w) ∙ e ∙ a .head in
       let z : _≡_ {A = ℕ} 0 1 = cc in
       absurd (omega arith)
 
@@ -142,7 +143,7 @@ module _ (s : List ℕ) (count : ℕ) (answers stops : List ℕ) where
       → RunsFirst s count answers stops (record { answer = Done; place = 0; count = count; drive = drive }) answers' stops'
   ran-first h x y z at drive answers' stops' i j e w g capacity bands sensors es q k =
       let a = accepted-is s capacity bands sensors es q in
-      let m : header x y z at ≡ header capacity bands sensors (a .next) = sym (ap headerIn w) ∙ e ∙ a .head in
+      let m : header 0 x y z at ≡ header (a .answer) capacity bands sensors (a .next) = sym (ap headerIn w) ∙ e ∙ a .head in
       let ex : x ≡ capacity = cc in
       let ey : y ≡ bands = cc in
       let ez : z ≡ sensors = cc in
@@ -165,7 +166,7 @@ module _ (s : List ℕ) (most : ℕ) (answers stops : List ℕ) (k : Checked) (e
   unfolding checkOf
   bad-script place r q p = refused-is BadScript place r answers stops p ∙ go (readScript s) (sym (ap checkedIn q) ∙ e)
     where
-      go : (o : Script) → badAt place ≡ checkScript o → refusedRun 10 place answers stops ≡ runScript o most answers stops
+      go : (o : Script) → badAt badScript place ≡ checkScript o → refusedRun badScript place answers stops ≡ runScript o most answers stops
       go (bad x) h = let w : place ≡ x = cc in rw w
       go (accepted a b c es) h = let w : _≡_ {A = ℕ} 0 1 = cc in absurd (omega arith)
 
@@ -174,7 +175,7 @@ module _ (s : List ℕ) (most : ℕ) (answers stops : List ℕ) (k : Checked) (e
   unfolding checkOf
   script-run all count r answers' stops' q c p = go (readScript s) refl (sym (ap checkedIn q) ∙ e)
     where
-      go : (o : Script) → readScript s ≡ o → reads all ≡ checkScript o → outcomeIn r answers' stops' ≡ runScript o most answers stops
+      go : (o : Script) → readScript s ≡ o → reads done all ≡ checkScript o → outcomeIn r answers' stops' ≡ runScript o most answers stops
       go (bad x) i h = let w : _≡_ {A = ℕ} 0 1 = cc in absurd (omega arith)
       go (accepted a b n es) i h =
           let w : all ≡ length es = cc in

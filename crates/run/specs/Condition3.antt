@@ -40,6 +40,13 @@ pub record LikeEvents (band : ℕ) (r : Ran) (es : List Event) (answers : List �
 abbrev pub EqualHeaders : (capacity bands sensors capacity' bands' sensors' : ℕ) → Type 0
 EqualHeaders capacity bands sensors capacity' bands' sensors' = (capacity ≡ capacity') × (bands ≡ bands') × (sensors ≡ sensors')
 
+-- "after every script that reads to its end, a side of a band is locked exactly when document 01's history rule says so": the bands of this
+-- run's drive
+abbrev pub FollowsHistory : Ran → (capacity bands sensors : ℕ) → List Event → Type 0
+FollowsHistory r capacity bands sensors es =
+    (band : ℕ) → band < bands → (side : Side)
+    → (lockedOn side (rowAt (r .drive) band) ≡ true) ↔ LockedByHistory side band (moments (freshDrive capacity bands sensors) es)
+
 -- Condition 3 of this run: against every script t that reads to its end with an equal header, and the history rule, for every band that the
 -- header counts
 pub record Condition3OfRun (s : List ℕ) (most : ℕ) (r : Ran) (answers : List ℕ) : Type 0 where
@@ -48,9 +55,8 @@ pub record Condition3OfRun (s : List ℕ) (most : ℕ) (r : Ran) (answers : List
       → EqualHeaders capacity bands sensors capacity' bands' sensors'
       → (band : ℕ) → band < bands → compared band es ≡ compared band fs
       → LikeEvents band r es answers (freshDrive capacity' bands' sensors') fs
-  pub history : (capacity bands sensors : ℕ) (es : List Event) → RanWhole s most r capacity bands sensors es → (band : ℕ) → band < bands
-      → (side : Side)
-      → (lockedOn side (rowAt (r .drive) band) ≡ true) ↔ LockedByHistory side band (moments (freshDrive capacity bands sensors) es)
+  pub history : (capacity bands sensors : ℕ) (es : List Event) → RanWhole s most r capacity bands sensors es
+      → FollowsHistory r capacity bands sensors es
 
 -- a script that was run whole: a script has at most 32,766 events (`few-events` of crate script), so 65,536 are all of them
 pub record RunWhole (s : List ℕ) (r : Ran) (capacity bands sensors : ℕ) (es : List Event) : Type 0 where
@@ -62,9 +68,13 @@ pub record LikeBands (band : ℕ) (r : RanTwo) (es fs : List Event) (answers ans
   pub value : valueAt (r .first .drive) band ≡ valueAt (r .second .drive) band
   pub own : ownAnswers band es answers ≡ ownAnswers band fs answers2
 
--- Condition 3 of two runs, on the two results and the two sets of answers themselves
+-- Condition 3 of two runs, on the two results and the two sets of answers themselves, with the history rule of both
 pub record Condition3OfTwo (s t : List ℕ) (r : RanTwo) (answers answers2 : List ℕ) : Type 0 where
   pub isolation : (capacity bands sensors : ℕ) (es : List Event) (capacity' bands' sensors' : ℕ) (fs : List Event)
       → RunWhole s (r .first) capacity bands sensors es → RunWhole t (r .second) capacity' bands' sensors' fs
       → EqualHeaders capacity bands sensors capacity' bands' sensors'
       → (band : ℕ) → band < bands → compared band es ≡ compared band fs → LikeBands band r es fs answers answers2
+  pub first-history : (capacity bands sensors : ℕ) (es : List Event) → RunWhole s (r .first) capacity bands sensors es
+      → FollowsHistory (r .first) capacity bands sensors es
+  pub second-history : (capacity bands sensors : ℕ) (es : List Event) → RunWhole t (r .second) capacity bands sensors es
+      → FollowsHistory (r .second) capacity bands sensors es

@@ -1,3 +1,4 @@
 pub mod Outcome
 pub mod Condition3
+pub mod Reached
 pub mod Parts

@@ -8,6 +8,7 @@ use Rattle.answer.specs.Numbers.{numberOf}
 use Rattle.drive.specs.declared.Drive.{Drive}
 use Rattle.drive.specs.State.{freshDrive}
 use Rattle.drive.specs.Events.{Event, runOf, answersOf, stopsIn, over}
+use Rattle.numbers.specs.Groups.{badScript}
 use Rattle.script.specs.Whole.{Script, accepted, bad}
 use Rattle.run.specs.declared.Ran.{Ran}
 
@@ -33,4 +34,4 @@ runEvents fresh es answers stops =
 -- the first events of a script, all where there are no more; "bad script" is 10 with its place
 abbrev pub runScript : Script → ℕ → List ℕ → List ℕ → RunOutcome
 runScript (accepted capacity bands sensors es) most answers stops = runEvents (freshDrive capacity bands sensors) (take most es) answers stops
-runScript (bad place) most answers stops = refusedRun 10 place answers stops
+runScript (bad place) most answers stops = refusedRun badScript place answers stops

@@ -3,6 +3,7 @@ ghost use mathlib.Core.Path.{_≡_};
 ghost use Rattle.script.specs.Whole.{mostScriptBytes, readScript};
 ghost use Rattle.run.specs.Condition3.{Condition3OfRun, Condition3OfTwo};
 ghost use Rattle.run.specs.Outcome.{outcomeIn, runScript};
+ghost use Rattle.run.specs.Reached.{RunReaches};
 ghost use Rattle.run.specs.Parts.{fewerOf, Refuses, RunsFirst};
 use answer::Answer;
 use drive::Drive;
@@ -85,6 +86,7 @@ fn run_first(script: &[u8], count: usize, answers: &mut [u8], stops: &mut [u8]) 
 pub fn run(script: &[u8], most: u64, answers: &mut [u8], stops: &mut [u8]) -> Ran
     ensures { λ r. ⌜ outcomeIn r (now (answers .exit)) (now (stops .exit)) ≡ runScript (readScript (now (script .entry))) most (now (answers .entry)) (now (stops .entry)) ⌝ }
     ensures condition { λ r. ⌜ Condition3OfRun (now (script .entry)) most r (now (answers .exit)) ⌝ }
+    ensures reached { λ r. ⌜ RunReaches r ⌝ }
 {
     match script::check(script) {
         Checked::Reads(all) => run_first(script, fewer(all, most), answers, stops),
@@ -104,6 +106,7 @@ pub fn run_two(
     ensures { λ r. ⌜ outcomeIn (r .first) (now (answers .exit)) (now (stops .exit)) ≡ runScript (readScript (now (first .entry))) mostScriptBytes (now (answers .entry)) (now (stops .entry)) ⌝ }
     ensures second { λ r. ⌜ outcomeIn (r .second) (now (answers2 .exit)) (now (stops2 .exit)) ≡ runScript (readScript (now (second .entry))) mostScriptBytes (now (answers2 .entry)) (now (stops2 .entry)) ⌝ }
     ensures condition { λ r. ⌜ Condition3OfTwo (now (first .entry)) (now (second .entry)) r (now (answers .exit)) (now (answers2 .exit)) ⌝ }
+    ensures reached { λ r. ⌜ RunReaches (r .first) × RunReaches (r .second) ⌝ }
 {
     let one = run(first, WHOLE, answers, stops);
     let two = run(second, WHOLE, answers2, stops2);

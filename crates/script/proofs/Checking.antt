@@ -10,7 +10,7 @@ use borrow.Author.Tests.{lt-ltb, le-ltb, ltb-true, ltb-false}
 use Rattle.base.proofs.Cases.{cond-true, cond-false}
 use Rattle.numbers.specs.declared.Number.{Number}
 use Rattle.numbers.specs.declared.Number.the-variants.{Is, Bad}
-use Rattle.numbers.specs.Groups.{Found, foundIn}
+use Rattle.numbers.specs.Groups.{done, badScript, Found, foundIn}
 use Rattle.drive.specs.Events.{Event, eventOf}
 use Rattle.event_reader.specs.declared.EventRead.{EventRead}
 use Rattle.event_reader.specs.declared.EventRead.the-variants as R
@@ -25,7 +25,7 @@ use Rattle.event_reader.proofs.Progress.{event-past}
 
 -- ---- the header
 
-pub header-bad : (r : Number) (f : Found) (k : ℕ → ℕ → Header) → foundIn r ≡ f → r ≡ Bad → noHeader ≡ fieldHeader f k
+pub header-bad : (r : Number) (f : Found) (k : ℕ → ℕ → Header) → foundIn r ≡ f → r ≡ Bad → noHeader badScript 0 ≡ fieldHeader f k
 header-bad r f k e q = sym (ap (λ (x : Found). fieldHeader x k) (sym e ∙ ap foundIn q))
 
 pub header-is : (r : Number) (f : Found) (k : ℕ → ℕ → Header) (v n : ℕ) (p : Header) → foundIn r ≡ f → r ≡ Is v n → p ≡ k v n → p ≡ fieldHeader f k
@@ -37,16 +37,16 @@ pub ruleset headers = (header-bad, header-is)
 
 -- so many events more
 abbrev plus : ℕ → Check → Check
-plus n (reads m) = reads (n + m)
-plus n (badAt p) = badAt p
+plus n (reads a m) = reads a (n + m)
+plus n (badAt a p) = badAt a p
 
 plus-none : (c : Check) → c ≡ plus 0 c
-plus-none (reads m) = let e : m ≡ 0 + m = omega arith in ap reads e
-plus-none (badAt p) = refl
+plus-none (reads a m) = let e : m ≡ 0 + m = omega arith in ap (reads a) e
+plus-none (badAt a p) = refl
 
 -- an event in front
 plus-one : (n : ℕ) (e : Event) (o : Events) → plus n (checkEvents (before e o)) ≡ plus (n + 1) (checkEvents o)
-plus-one n e (events es) = let q : n + suc (length es) ≡ n + 1 + length es = omega arith in ap reads q
+plus-one n e (events es) = let q : n + suc (length es) ≡ n + 1 + length es = omega arith in ap (reads done) q
 plus-one n e (badFrom p) = refl
 
 -- what is still to be checked decides, with the events counted so far
@@ -79,8 +79,8 @@ module _ (s : List ℕ) (start at count : ℕ) (i : Checking s start at count) (
   pub check-again : (r : EventRead) (kind : Rattle.drive.specs.declared.Kind.Kind) (b c n : ℕ) → parsedIn s r ≡ eventAt s at → r ≡ R.Is kind b c n
       → Checking s start n (count + 1)
   check-again r kind b c n e q =
-      let w : eventAt s at ≡ event (eventOf kind (tokensAt s b c)) n = sym e ∙ ap (parsedIn s) q in
-      let p : at < n = event-past s at (eventOf kind (tokensAt s b c)) n w in
+      let w : eventAt s at ≡ event done (eventOf kind (tokensAt s b c)) b c n = sym e ∙ ap (parsedIn s) q in
+      let p : at < n = event-past s at done (eventOf kind (tokensAt s b c)) b c n w in
       record {
         left = i .left - 1;
         enough = omega (arith, i .enough);
@@ -92,9 +92,9 @@ module _ (s : List ℕ) (start at count : ℕ) (i : Checking s start at count) (
   pub check-less : (r : EventRead) (kind : Rattle.drive.specs.declared.Kind.Kind) (b c n : ℕ) → parsedIn s r ≡ eventAt s at → r ≡ R.Is kind b c n
       → length s - n < length s - at
   check-less r kind b c n e q =
-      omega (arith, event-past s at (eventOf kind (tokensAt s b c)) n (sym e ∙ ap (parsedIn s) q))
+      omega (arith, event-past s at done (eventOf kind (tokensAt s b c)) b c n (sym e ∙ ap (parsedIn s) q))
 
-  pub check-broken : (r : EventRead) → parsedIn s r ≡ eventAt s at → r ≡ R.Bad → badAt at ≡ checkFrom s start
+  pub check-broken : (r : EventRead) → parsedIn s r ≡ eventAt s at → r ≡ R.Bad → badAt badScript at ≡ checkFrom s start
   check-broken r e q =
       sym (more ∙ ap (λ (x : Parsed). plus count (checkEvents (andThen at x (λ m. eventsIn (i .left - 1) s m)))) (sym e ∙ ap (parsedIn s) q))
 
@@ -103,14 +103,14 @@ unfolding eventsIn
 no-events zero s at h = refl
 no-events (suc k) s at h = sym (cond-false (ltb at (length s)) _ _ _ (le-ltb at (length s) h) refl)
 
-pub check-done : (s : List ℕ) (start at count : ℕ) → Checking s start at count → length s ≤ at → reads count ≡ checkFrom s start
+pub check-done : (s : List ℕ) (start at count : ℕ) → Checking s start at count → length s ≤ at → reads done count ≡ checkFrom s start
 check-done s start at count i h =
     let e : count + 0 ≡ count = omega arith in
-    sym (i .same ∙ ap (λ (o : Events). plus count (checkEvents o)) (no-events (i .left) s at h) ∙ ap reads e)
+    sym (i .same ∙ ap (λ (o : Events). plus count (checkEvents o)) (no-events (i .left) s at h) ∙ ap (reads done) e)
 
 -- ---- the whole
 
-pub check-overlong : (s : List ℕ) → mostScriptBytes < length s → badAt 0 ≡ checkOf s
+pub check-overlong : (s : List ℕ) → mostScriptBytes < length s → badAt badScript 0 ≡ checkOf s
 unfolding checkOf readScript
 check-overlong s h = ap checkScript (cond-true (ltb mostScriptBytes (length s)) _ _ _ (lt-ltb mostScriptBytes (length s) h) refl)
 
@@ -119,7 +119,7 @@ module _ (s : List ℕ) (h : length s ≤ mostScriptBytes) (r : HeaderRead) (e :
   unfolding checkOf readScript
   with-header = ap checkScript (cond-false (ltb mostScriptBytes (length s)) _ _ _ (le-ltb mostScriptBytes (length s) h) (ap (withHeader s) e))
 
-  pub check-no-header : r ≡ H.Bad → badAt 0 ≡ checkOf s
+  pub check-no-header : r ≡ H.Bad → badAt badScript 0 ≡ checkOf s
   check-no-header q = sym (ap (λ (x : HeaderRead). checkScript (withHeader s (headerIn x))) q) ∙ with-header
 
   pub check-events : (a b c n : ℕ) (k : Checked) → r ≡ H.Is a b c n → checkedIn k ≡ checkFrom s n → checkedIn k ≡ checkOf s
@@ -141,8 +141,8 @@ same-events (suc k) (suc l) s at h g = go (ltb at (length s)) refl (eventAt s at
     go : (t : Bool) → ltb at (length s) ≡ t → (p : Parsed) → eventAt s at ≡ p → ((n : ℕ) → (at < n) × (at < length s) → eventsIn k s n ≡ eventsIn l s n)
         → cond t (andThen at p (λ n. eventsIn k s n)) (events []) ≡ cond t (andThen at p (λ n. eventsIn l s n)) (events [])
     go false q p e more = refl
-    go true q broken e more = refl
-    go true q (event x n) e more = ap (before x) (more n (event-past s at x n e, ltb-true at (length s) q))
+    go true q (broken a) e more = refl
+    go true q (event a x b c n) e more = ap (before x) (more n (event-past s at a x b c n e, ltb-true at (length s) q))
 
 pub reads-on : ReadsOn
 unfolding eventsFrom
@@ -156,7 +156,7 @@ reads-on s at = go (ltb at (length s)) refl
         ap (λ (k : ℕ). eventsIn k s at) e ∙ one-event (length s - at - 1) s at h ∙ after (eventAt s at) refl
       where
         after : (p : Parsed) → eventAt s at ≡ p → andThen at p (λ n. eventsIn (length s - at - 1) s n) ≡ andThen at p (λ n. eventsFrom s n)
-        after broken e = refl
-        after (event x n) e =
+        after (broken a) e = refl
+        after (event a x b c n) e =
             let h = ltb-true at (length s) q in
-            ap (before x) (same-events (length s - at - 1) (length s - n) s n (omega (arith, h, event-past s at x n e)) (omega arith))
+            ap (before x) (same-events (length s - at - 1) (length s - n) s n (omega (arith, h, event-past s at a x b c n e)) (omega arith))

@@ -14,5 +14,5 @@ before e (events es) = events (e ∷ es)
 before e (badFrom place) = badFrom place
 
 abbrev pub andThen : ℕ → Parsed → (ℕ → Events) → Events
-andThen at (event e next) follow = before e (follow next)
-andThen at broken follow = badFrom at
+andThen at (event answer e start count next) follow = before e (follow next)
+andThen at (broken answer) follow = badFrom at

@@ -5,7 +5,7 @@ use mathlib.Core.Bool.{cond}
 use mathlib.Core.List.{List, []}
 use lib.Dec.{ltb}
 use lib.ListN.{length}
-use Rattle.numbers.specs.Groups.{Found, found, none, numberAt}
+use Rattle.numbers.specs.Groups.{done, badScript, Found, found, none, numberAt}
 use Rattle.drive.specs.State.{headerFits}
 use Rattle.drive.specs.Events.{Event}
 use Rattle.event_reader.specs.Fields.{eventAt}
@@ -16,24 +16,27 @@ use Rattle.script.specs.declared.HeaderRead.the-variants as H
 use Rattle.script.specs.declared.Checked.{Checked}
 use Rattle.script.specs.declared.Checked.the-variants as C
 
--- "Header: capacity, bands, sensors.", with the place after it; none where it does not read or is out of range
+-- "Header: capacity, bands, sensors.": done, with these and the place after them; or bad script with its place, where the header does not read
+-- or is out of range: "0 for the header"
 pub data Header : Type 0 where
-  header : (capacity bands sensors next : ℕ) → Header
-  noHeader : Header
+  header : (answer capacity bands sensors next : ℕ) → Header
+  noHeader : (answer place : ℕ) → Header
 
 abbrev pub fieldHeader : Found → (ℕ → ℕ → Header) → Header
-fieldHeader (found v next) follow = follow v next
-fieldHeader none follow = noHeader
+fieldHeader (found answer v next) follow = follow v next
+fieldHeader (none answer) follow = noHeader answer 0
 
 unfoldable pub headerAt : List ℕ → Header
 headerAt s =
     fieldHeader (numberAt s 0) (λ capacity at.
     fieldHeader (numberAt s at) (λ bands at.
-    fieldHeader (numberAt s at) (λ sensors at. cond (headerFits capacity bands sensors) (header capacity bands sensors at) noHeader)))
+    fieldHeader (numberAt s at) (λ sensors at.
+    cond (headerFits capacity bands sensors) (header done capacity bands sensors at) (noHeader badScript 0))))
 
+-- the code's cases by the paper's numbers
 abbrev pub headerIn : HeaderRead → Header
-headerIn (H.Is capacity bands sensors next) = header capacity bands sensors next
-headerIn H.Bad = noHeader
+headerIn (H.Is capacity bands sensors next) = header 0 capacity bands sensors next
+headerIn H.Bad = noHeader 10 0
 
 -- The events from a place on are those that read one after the other up to the script's end: this equation determines them, since each
 -- event takes at least one byte (`reads-on` in proofs/Checking).
@@ -58,32 +61,32 @@ withEvents capacity bands sensors (events es) = accepted capacity bands sensors 
 withEvents capacity bands sensors (badFrom place) = bad place
 
 abbrev pub withHeader : List ℕ → Header → Script
-withHeader s (header capacity bands sensors next) = withEvents capacity bands sensors (eventsFrom s next)
-withHeader s noHeader = bad 0
+withHeader s (header answer capacity bands sensors next) = withEvents capacity bands sensors (eventsFrom s next)
+withHeader s (noHeader answer place) = bad place
 
 unfoldable pub readScript : List ℕ → Script
 readScript s = cond (ltb mostScriptBytes (length s)) (bad 0) (withHeader s (headerAt s))
 
--- what the check tells: how many events there are, or the place
-
+-- what the check answers: done, with how many events there are; or bad script: "Answer 10 carries a place"
 pub data Check : Type 0 where
-  reads : (count : ℕ) → Check
-  badAt : (place : ℕ) → Check
+  reads : (answer count : ℕ) → Check
+  badAt : (answer place : ℕ) → Check
 
+-- the code's cases by the paper's numbers
 abbrev pub checkedIn : Checked → Check
-checkedIn (C.Reads count) = reads count
-checkedIn (C.BadAt place) = badAt place
+checkedIn (C.Reads count) = reads 0 count
+checkedIn (C.BadAt place) = badAt 10 place
 
 abbrev pub checkEvents : Events → Check
-checkEvents (events es) = reads (length es)
-checkEvents (badFrom place) = badAt place
+checkEvents (events es) = reads done (length es)
+checkEvents (badFrom place) = badAt badScript place
 
 unfoldable pub checkFrom : List ℕ → ℕ → Check
 checkFrom s at = checkEvents (eventsFrom s at)
 
 abbrev pub checkScript : Script → Check
-checkScript (accepted capacity bands sensors es) = reads (length es)
-checkScript (bad place) = badAt place
+checkScript (accepted capacity bands sensors es) = reads done (length es)
+checkScript (bad place) = badAt badScript place
 
 unfoldable pub checkOf : List ℕ → Check
 checkOf s = checkScript (readScript s)

@@ -1,5 +1,5 @@
 use Rattle.event_reader.specs.Fields.{elapseAt}
-use Rattle.event_reader.proofs.Chains.{fields}
+use Rattle.event_reader.proofs.Chains.{chain}
 use borrow.Author.Needs.{needs}
 use Rattle.event_reader.proofs.elapse_at.Statement.{statement}
 use Rattle.event_reader.proofs.elapse_at.Tie as tie
@@ -15,11 +15,11 @@ enum-told c = search needs
 
 returns : tie.Need-returns
 unfolding elapseAt
-returns c = search fields depth 24 fits 4000
+returns c = search chain depth 24 fits 4000
 
 returns-2 : tie.Need-returns-2
 unfolding elapseAt
-returns-2 c = search fields depth 24 fits 4000
+returns-2 c = search chain depth 24 fits 4000
 
 pub elapse-at-spec : {M : Type 1} → statement M
 elapse-at-spec =

@@ -1,5 +1,5 @@
 use Rattle.event_reader.specs.Fields.{firstColumnsAt}
-use Rattle.event_reader.proofs.Chains.{fields}
+use Rattle.event_reader.proofs.Chains.{chain}
 use borrow.Author.Needs.{needs}
 use Rattle.event_reader.proofs.first_columns_at.Statement.{statement}
 use Rattle.event_reader.proofs.first_columns_at.Tie as tie
@@ -15,7 +15,7 @@ enum-told c = search needs
 
 returns : tie.Need-returns
 unfolding firstColumnsAt
-returns c = λ follow. search fields depth 9 fits 4000
+returns c = search chain depth 9 fits 4000
 
 column-at-requires-2 : tie.Need-column-at-requires-2
 column-at-requires-2 c κs = search needs
@@ -28,7 +28,7 @@ enum-told-2 c = search needs
 
 returns-2 : tie.Need-returns-2
 unfolding firstColumnsAt
-returns-2 c = λ follow. search fields depth 9 fits 4000
+returns-2 c = search chain depth 9 fits 4000
 
 column-at-requires-3 : tie.Need-column-at-requires-3
 column-at-requires-3 c κs = search needs
@@ -41,7 +41,7 @@ enum-told-3 c = search needs
 
 returns-3 : tie.Need-returns-3
 unfolding firstColumnsAt
-returns-3 c = λ follow. search fields depth 9 fits 4000
+returns-3 c = search chain depth 9 fits 4000
 
 column-at-requires-4 : tie.Need-column-at-requires-4
 column-at-requires-4 c κs = search needs
@@ -54,7 +54,7 @@ enum-told-4 c = search needs
 
 returns-4 : tie.Need-returns-4
 unfolding firstColumnsAt
-returns-4 c = λ follow. search fields depth 9 fits 4000
+returns-4 c = search chain depth 9 fits 4000
 
 column-at-requires-5 : tie.Need-column-at-requires-5
 column-at-requires-5 c κs = search needs
@@ -67,11 +67,11 @@ enum-told-5 c = search needs
 
 returns-5 : tie.Need-returns-5
 unfolding firstColumnsAt
-returns-5 c = λ follow. search fields depth 9 fits 4000
+returns-5 c = search chain depth 9 fits 4000
 
 returns-6 : tie.Need-returns-6
 unfolding firstColumnsAt
-returns-6 c = λ follow. search fields depth 9 fits 4000
+returns-6 c = search chain depth 9 fits 4000
 
 pub first-columns-at-spec : {M : Type 1} → statement M
 first-columns-at-spec =

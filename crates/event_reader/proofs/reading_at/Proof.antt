@@ -1,5 +1,5 @@
 use Rattle.event_reader.specs.Fields.{readingAt}
-use Rattle.event_reader.proofs.Chains.{fields}
+use Rattle.event_reader.proofs.Chains.{chain}
 use borrow.Author.Needs.{needs}
 use Rattle.event_reader.proofs.reading_at.Statement.{statement}
 use Rattle.event_reader.proofs.reading_at.Tie as tie
@@ -15,7 +15,7 @@ enum-told c = search needs
 
 returns : tie.Need-returns
 unfolding readingAt
-returns c = search fields depth 9 fits 4000
+returns c = search chain depth 9 fits 4000
 
 number-at-requires-2 : tie.Need-number-at-requires-2
 number-at-requires-2 c κs = search needs
@@ -28,11 +28,11 @@ enum-told-2 c = search needs
 
 returns-2 : tie.Need-returns-2
 unfolding readingAt
-returns-2 c = search fields depth 9 fits 4000
+returns-2 c = search chain depth 9 fits 4000
 
 returns-3 : tie.Need-returns-3
 unfolding readingAt
-returns-3 c = search fields depth 9 fits 4000
+returns-3 c = search chain depth 9 fits 4000
 
 pub reading-at-spec : {M : Type 1} → statement M
 reading-at-spec =

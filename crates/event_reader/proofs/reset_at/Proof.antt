@@ -1,5 +1,5 @@
 use Rattle.event_reader.specs.Fields.{resetAt}
-use Rattle.event_reader.proofs.Chains.{fields}
+use Rattle.event_reader.proofs.Chains.{chain}
 use borrow.Author.Needs.{needs}
 use Rattle.event_reader.proofs.reset_at.Statement.{statement}
 use Rattle.event_reader.proofs.reset_at.Tie as tie
@@ -15,11 +15,11 @@ enum-told c = search needs
 
 returns : tie.Need-returns
 unfolding resetAt
-returns c = search fields depth 24 fits 4000
+returns c = search chain depth 24 fits 4000
 
 returns-2 : tie.Need-returns-2
 unfolding resetAt
-returns-2 c = search fields depth 24 fits 4000
+returns-2 c = search chain depth 24 fits 4000
 
 pub reset-at-spec : {M : Type 1} → statement M
 reset-at-spec = tie.close (tie.spec number-at-requires enum-known-reset-type enum-told returns returns-2)

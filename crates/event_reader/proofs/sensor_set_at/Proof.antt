@@ -1,5 +1,5 @@
 use Rattle.event_reader.specs.Fields.{sensorSetAt}
-use Rattle.event_reader.proofs.Chains.{fields}
+use Rattle.event_reader.proofs.Chains.{chain}
 use borrow.Author.Needs.{needs}
 use Rattle.event_reader.proofs.sensor_set_at.Statement.{statement}
 use Rattle.event_reader.proofs.sensor_set_at.Tie as tie
@@ -15,7 +15,7 @@ enum-told c = search needs
 
 returns : tie.Need-returns
 unfolding sensorSetAt
-returns c = search fields depth 9 fits 4000
+returns c = search chain depth 9 fits 4000
 
 number-at-requires-2 : tie.Need-number-at-requires-2
 number-at-requires-2 c κs = search needs
@@ -28,11 +28,11 @@ enum-told-2 c = search needs
 
 returns-2 : tie.Need-returns-2
 unfolding sensorSetAt
-returns-2 c = search fields depth 9 fits 4000
+returns-2 c = search chain depth 9 fits 4000
 
 returns-3 : tie.Need-returns-3
 unfolding sensorSetAt
-returns-3 c = search fields depth 9 fits 4000
+returns-3 c = search chain depth 9 fits 4000
 
 first-columns-at-requires : tie.Need-first-columns-at-requires
 first-columns-at-requires c κs = search needs
@@ -45,7 +45,7 @@ enum-told-3 c = search needs
 
 returns-4 : tie.Need-returns-4
 unfolding sensorSetAt
-returns-4 c = search fields depth 9 fits 4000
+returns-4 c = search chain depth 9 fits 4000
 
 column-at-requires : tie.Need-column-at-requires
 column-at-requires c κs = search needs
@@ -58,7 +58,7 @@ enum-told-4 c = search needs
 
 returns-5 : tie.Need-returns-5
 unfolding sensorSetAt
-returns-5 c = search fields depth 9 fits 4000
+returns-5 c = search chain depth 9 fits 4000
 
 column-at-requires-2 : tie.Need-column-at-requires-2
 column-at-requires-2 c κs = search needs
@@ -71,11 +71,11 @@ enum-told-5 c = search needs
 
 returns-6 : tie.Need-returns-6
 unfolding sensorSetAt
-returns-6 c = search fields depth 9 fits 4000
+returns-6 c = search chain depth 9 fits 4000
 
 returns-7 : tie.Need-returns-7
 unfolding sensorSetAt
-returns-7 c = search fields depth 9 fits 4000
+returns-7 c = search chain depth 9 fits 4000
 
 pub sensor-set-at-spec : {M : Type 1} → statement M
 sensor-set-at-spec =

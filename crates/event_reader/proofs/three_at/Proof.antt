@@ -1,4 +1,4 @@
-use Rattle.event_reader.proofs.Chains.{fields, either}
+use Rattle.event_reader.proofs.Chains.{chain, either}
 use Rattle.base.proofs.Cases.{cond-true, cond-false}
 use borrow.Author.Tests.{eq-eqb, ne-eqb}
 use borrow.Author.Needs.{needs}
@@ -15,7 +15,7 @@ enum-told : tie.Need-enum-told
 enum-told c = search needs
 
 returns : tie.Need-returns
-returns c = search (either, fields) depth 9 fits 4000
+returns c = search (either, chain) depth 9 fits 4000
 
 number-at-requires-2 : tie.Need-number-at-requires-2
 number-at-requires-2 c κs = search needs
@@ -27,7 +27,7 @@ enum-told-2 : tie.Need-enum-told-2
 enum-told-2 c = search needs
 
 returns-2 : tie.Need-returns-2
-returns-2 c = search (either, fields) depth 9 fits 4000
+returns-2 c = search (either, chain) depth 9 fits 4000
 
 number-at-requires-3 : tie.Need-number-at-requires-3
 number-at-requires-3 c κs = search needs
@@ -39,13 +39,13 @@ enum-told-3 : tie.Need-enum-told-3
 enum-told-3 c = search needs
 
 returns-3 : tie.Need-returns-3
-returns-3 c = search (either, fields) depth 9 fits 4000
+returns-3 c = search (either, chain) depth 9 fits 4000
 
 returns-4 : tie.Need-returns-4
-returns-4 c = search (either, fields, cond-true, eq-eqb) depth 9 fits 4000
+returns-4 c = search (either, chain, cond-true, eq-eqb) depth 9 fits 4000
 
 returns-5 : tie.Need-returns-5
-returns-5 c = search (either, fields, cond-false, ne-eqb) depth 9 fits 4000
+returns-5 c = search (either, chain, cond-false, ne-eqb) depth 9 fits 4000
 
 pub three-at-spec : {M : Type 1} → statement M
 three-at-spec =

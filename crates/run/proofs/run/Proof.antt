@@ -1,5 +1,6 @@
 use Rattle.run.proofs.Whole.{bad-script, script-run}
 use Rattle.run.proofs.Holding.{bad-holds, run-holds}
+use Rattle.run.proofs.Reaching.{bad-reached, all-reached}
 use borrow.Author.Needs.{needs}
 use Rattle.run.proofs.run.Statement.{statement}
 use Rattle.run.proofs.run.Tie as tie
@@ -29,10 +30,10 @@ same-length-2 : tie.Need-same-length-2
 same-length-2 c = search needs
 
 returns : tie.Need-returns
-returns c = (search script-run, search run-holds)
+returns c = (search script-run, (search run-holds, search all-reached))
 
 returns-2 : tie.Need-returns-2
-returns-2 c = (search bad-script, search bad-holds)
+returns-2 c = (search bad-script, (search bad-holds, search bad-reached))
 
 pub run-spec : {M : Type 1} → statement M
 run-spec =

@@ -22,7 +22,7 @@ same-length-4 : tie.Need-same-length-4
 same-length-4 c = search needs
 
 returns : tie.Need-returns
-returns c = (search needs, (search needs, search two-hold))
+returns c = (search needs, (search needs, (search two-hold, (search needs, search needs))))
 
 pub run-two-spec : {M : Type 1} → statement M
 run-two-spec =
