@@ -12,6 +12,7 @@ use Rattle.base.proofs.Cases.{cond-true, cond-false, and-left, and-right}
 use Rattle.numbers.specs.declared.Number.{Number}
 use Rattle.numbers.specs.declared.Number.the-variants.{Is, Bad}
 use Rattle.numbers.specs.Groups.{done, badScript, Found, found, foundIn, numberAt}
+use Rattle.numbers.proofs.Onward.{onward-bad, onward-is}
 use Rattle.token_reader.specs.Read.{mostTokenBytes}
 use Rattle.drive.specs.Events.{geometry, transfer}
 use Rattle.event_reader.specs.declared.FirstColumns.{FirstColumns}
@@ -22,20 +23,14 @@ use Rattle.event_reader.proofs.Bounds.{NumberIn, number-here}
 use Rattle.event_reader.specs.Fields.{Parsed, plain, broken, field, Follow, Five, five, noFive, fieldFive, fields, firstColumnsAt, Stretch, stretch, cut, fieldTokens, tokensAt, columnAt, stretchAt, expressionAt, geometryAt, transferAt, KindAt, kinds, among, ofKind, eventAt}
 use Rattle.event_reader.specs.Parts.{firstColumnsIn, bytesReadIn}
 
--- a number that does not read, and one that does
-pub read-bad : (r : Number) (f : Found) (k : ℕ → ℕ → Parsed) → foundIn r ≡ f → r ≡ Bad → broken badScript ≡ field f k
-read-bad r f k e q = sym (ap (λ (x : Found). field x k) (sym e ∙ ap foundIn q))
+-- a field that does not read, of an event and of the five columns
+pub field-bad : (r : Number) (f : Found) (k : ℕ → ℕ → Parsed) → foundIn r ≡ f → r ≡ Bad → broken badScript ≡ field f k
+field-bad = onward-bad broken
 
-pub read-is : (r : Number) (f : Found) (k : ℕ → ℕ → Parsed) (v n : ℕ) (p : Parsed) → foundIn r ≡ f → r ≡ Is v n → p ≡ k v n → p ≡ field f k
-read-is r f k v n p e q w = w ∙ sym (ap (λ (x : Found). field x k) (sym e ∙ ap foundIn q))
-
--- a column of bits 1 to 16, and the five of them
 pub column-bad : (r : Number) (f : Found) (k : ℕ → ℕ → Five) → foundIn r ≡ f → r ≡ Bad → noFive badScript ≡ fieldFive f k
-column-bad r f k e q = sym (ap (λ (x : Found). fieldFive x k) (sym e ∙ ap foundIn q))
+column-bad = onward-bad noFive
 
-pub column-is : (r : Number) (f : Found) (k : ℕ → ℕ → Five) (v n : ℕ) (p : Five) → foundIn r ≡ f → r ≡ Is v n → p ≡ k v n → p ≡ fieldFive f k
-column-is r f k v n p e q w = w ∙ sym (ap (λ (x : Found). fieldFive x k) (sym e ∙ ap foundIn q))
-
+-- the columns of bits 1 to 16
 pub five-bad : (r : FirstColumns) (f : Five) (k : Follow) → firstColumnsIn r ≡ f → r ≡ F.Bad → broken badScript ≡ fields f k
 five-bad r f k e q = sym (ap (λ (x : Five). fields x k) (sym e ∙ ap firstColumnsIn q))
 
@@ -60,7 +55,7 @@ mask-unknown mask masks limit x h k = cond-false (ltb mask masks) _ _ _ (le-ltb 
 pub mask-known : (mask masks : ℕ) (x p : Parsed) → mask < masks → p ≡ x → p ≡ cond (ltb mask masks) x (broken badScript)
 mask-known mask masks x p h e = cond-true (ltb mask masks) _ _ _ (lt-ltb mask masks h) e
 
-pub ruleset chain = (read-bad, read-is, column-bad, column-is, five-bad, five-is, tokens-bad, tokens-is, mask-unknown, mask-known)
+pub ruleset chain = (field-bad, column-bad, onward-is, five-bad, five-is, tokens-bad, tokens-is, mask-unknown, mask-known)
 
 -- ---- a column, an expression's bytes and their part of the script
 
@@ -124,11 +119,11 @@ either s at kind p w = go (eqb kind 6) w
 
 pub kind-bad : (s : List ℕ) (at : ℕ) (r : Number) → foundIn r ≡ numberAt s at → r ≡ Bad → broken badScript ≡ eventAt s at
 unfolding eventAt
-kind-bad s at r e q = read-bad r (numberAt s at) _ e q
+kind-bad s at r e q = field-bad r (numberAt s at) _ e q
 
 kind-is : (s : List ℕ) (at : ℕ) (r : Number) (kind n : ℕ) → foundIn r ≡ numberAt s at → r ≡ Is kind n → ofKind kind s n ≡ eventAt s at
 unfolding eventAt
-kind-is s at r kind n e q = read-is r (numberAt s at) (λ k next. ofKind k s next) kind n (ofKind kind s n) e q refl
+kind-is s at r kind n e q = onward-is broken r (numberAt s at) (λ k next. ofKind k s next) kind n (ofKind kind s n) e q refl
 
 -- a kind that is known, by its number
 pub kind-known : (s : List ℕ) (at : ℕ) (r : Number) (kind n m : ℕ) (p : Parsed) → foundIn r ≡ numberAt s at → r ≡ Is kind n → kind ≡ m → p ≡ ofKind m s n

@@ -5,7 +5,7 @@ use mathlib.Core.List.{List, [], _∷_}
 use lib.Dec.{eqb, leb, ltb}
 use lib.ListN.{length, take, drop}
 use Rattle.base.specs.Columns.{named}
-use Rattle.numbers.specs.Groups.{done, badScript, Found, found, none, numberAt}
+use Rattle.numbers.specs.Groups.{done, badScript, Found, found, none, onward, numberAt}
 use Rattle.sensor_set.specs.Columns.{sensorMasks}
 use Rattle.token_reader.specs.Read.{mostTokenBytes}
 use Rattle.band_columns.specs.Sets.{bandMasks}
@@ -23,10 +23,9 @@ pub data Parsed : Type 0 where
 abbrev pub plain : Event → ℕ → Parsed
 plain e next = event done e 0 0 next
 
--- a field, and what its value and the place after it go on to: "a cut field, a number not in shortest form or not below 2^64" is bad
+-- a field of an event, and what it goes on to
 abbrev pub field : Found → (ℕ → ℕ → Parsed) → Parsed
-field (found answer v next) follow = follow v next
-field (none answer) follow = broken answer
+field f follow = onward broken f follow
 
 -- "values by rising bit": the column of a bit where the mask names it, else 0, which takes no bytes
 abbrev pub columnAt : List ℕ → ℕ → ℕ → ℕ → Found
@@ -38,8 +37,7 @@ pub data Five : Type 0 where
   noFive : (answer : ℕ) → Five
 
 abbrev pub fieldFive : Found → (ℕ → ℕ → Five) → Five
-fieldFive (found answer v next) follow = follow v next
-fieldFive (none answer) follow = noFive answer
+fieldFive f follow = onward noFive f follow
 
 unfoldable pub firstColumnsAt : List ℕ → ℕ → ℕ → Five
 firstColumnsAt s at mask =

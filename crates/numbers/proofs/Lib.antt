@@ -1,3 +1,4 @@
 pub mod Places
 pub mod Enough
 pub mod Only
+pub mod Onward

@@ -42,6 +42,12 @@ numberFrom at (b ∷ bytes) = cond (ltb b 128) (found done b (at + 1)) (prefixed
 abbrev pub numberAt : List ℕ → ℕ → Found
 numberAt bytes at = numberFrom at (drop at bytes)
 
+-- a field, and what its value and the place after it go on to; or what is made of a refusal: "a cut field, a number not in shortest form or
+-- not below 2^64" is bad
+abbrev pub onward : {A : Type 0} → (ℕ → A) → Found → (ℕ → ℕ → A) → A
+onward refuse (found answer v next) follow = follow v next
+onward refuse (none answer) follow = refuse answer
+
 -- the groups of a number, at most so many
 unfoldable pub groupsOf : ℕ → ℕ → List ℕ
 groupsOf zero v = []

@@ -9,8 +9,9 @@ use lib.ListN.{length}
 use borrow.Author.Tests.{lt-ltb, le-ltb, ltb-true, ltb-false}
 use Rattle.base.proofs.Cases.{cond-true, cond-false}
 use Rattle.numbers.specs.declared.Number.{Number}
-use Rattle.numbers.specs.declared.Number.the-variants.{Is, Bad}
+use Rattle.numbers.specs.declared.Number.the-variants.{Bad}
 use Rattle.numbers.specs.Groups.{done, badScript, Found, foundIn}
+use Rattle.numbers.proofs.Onward.{onward-bad, onward-is}
 use Rattle.drive.specs.Events.{Event, eventOf}
 use Rattle.event_reader.specs.declared.EventRead.{EventRead}
 use Rattle.event_reader.specs.declared.EventRead.the-variants as R
@@ -26,12 +27,9 @@ use Rattle.event_reader.proofs.Progress.{event-past}
 -- ---- the header
 
 pub header-bad : (r : Number) (f : Found) (k : ℕ → ℕ → Header) → foundIn r ≡ f → r ≡ Bad → noHeader badScript 0 ≡ fieldHeader f k
-header-bad r f k e q = sym (ap (λ (x : Found). fieldHeader x k) (sym e ∙ ap foundIn q))
+header-bad = onward-bad (λ answer. noHeader answer 0)
 
-pub header-is : (r : Number) (f : Found) (k : ℕ → ℕ → Header) (v n : ℕ) (p : Header) → foundIn r ≡ f → r ≡ Is v n → p ≡ k v n → p ≡ fieldHeader f k
-header-is r f k v n p e q w = w ∙ sym (ap (λ (x : Found). fieldHeader x k) (sym e ∙ ap foundIn q))
-
-pub ruleset headers = (header-bad, header-is)
+pub ruleset headers = (header-bad, onward-is)
 
 -- ---- the events
 

@@ -5,7 +5,7 @@ use mathlib.Core.Bool.{cond}
 use mathlib.Core.List.{List, []}
 use lib.Dec.{ltb}
 use lib.ListN.{length}
-use Rattle.numbers.specs.Groups.{done, badScript, Found, found, none, numberAt}
+use Rattle.numbers.specs.Groups.{done, badScript, Found, onward, numberAt}
 use Rattle.drive.specs.State.{headerFits}
 use Rattle.drive.specs.Events.{Event}
 use Rattle.event_reader.specs.Fields.{eventAt}
@@ -23,8 +23,7 @@ pub data Header : Type 0 where
   noHeader : (answer place : ℕ) → Header
 
 abbrev pub fieldHeader : Found → (ℕ → ℕ → Header) → Header
-fieldHeader (found answer v next) follow = follow v next
-fieldHeader (none answer) follow = noHeader answer 0
+fieldHeader f follow = onward (λ answer. noHeader answer 0) f follow
 
 unfoldable pub headerAt : List ℕ → Header
 headerAt s =
