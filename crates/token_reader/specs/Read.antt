@@ -8,11 +8,11 @@ use lib.ListN.{length, getD, drop}
 use Rattle.answer.specs.Numbers.{numberOf}
 use Rattle.expression.specs.declared.Element.{Element}
 use Rattle.expression.specs.declared.Expression.{Expression}
-use Rattle.expression.specs.Elements.{mostElements, element, expressionOf}
+use Rattle.expression.specs.Elements.{mostElements, element, elementsIn, expressionOf}
 use Rattle.token_reader.specs.declared.Head.{Head}
 use Rattle.token_reader.specs.declared.Head.the-variants.{Is, Broken}
 use Rattle.token_reader.specs.declared.Tokens.{Tokens}
-use Rattle.token_reader.specs.Format.{partIn, widthOf, isEnd}
+use Rattle.token_reader.specs.Format.{partIn, widthOf, isEnd, bytesOf}
 
 -- what is read: the elements, or the refusal's number
 pub data TokenOutcome : Type 0 where
@@ -61,3 +61,7 @@ pub record Tells (o : TokenOutcome) (r : Tokens) : Type 0 where
 
 abbrev pub Reads : List ℕ → Tokens → Type 0
 Reads bytes r = Tells (readTokens bytes) r
+
+-- "tokens that are accepted are written again as the same bytes": where the answer is 0, these are the bytes of the elements handed back
+abbrev pub WrittenAgain : List ℕ → Tokens → Type 0
+WrittenAgain bytes r = numberOf (r .answer) ≡ 0 → bytesOf (elementsIn (r .expression)) ≡ bytes
