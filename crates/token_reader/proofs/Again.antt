@@ -39,7 +39,8 @@ use Rattle.token_reader.specs.Read.{
   TokenOutcome,
   elements,
   refusal,
-  before,
+  headOutcome,
+  followed,
   andThen,
   readElements,
   readList,
@@ -142,7 +143,7 @@ none-is bytes es t e = let f : es ≡ [] = cc in rw (f, end-is bytes t)
 
 -- an element in front of what is written
 before-is : (bytes : List ℕ) (p : Part) (o : TokenOutcome) (es : List Element) → BeginsWith p bytes
-    → ((fs : List Element) → o ≡ elements fs → bodyOf fs ≡ drop (widthOf p) bytes) → before (element p) o ≡ elements es → bodyOf es ≡ bytes
+    → ((fs : List Element) → o ≡ elements fs → bodyOf fs ≡ drop (widthOf p) bytes) → followed (headOutcome (Is p)) o ≡ elements es → bodyOf es ≡ bytes
 unfolding bodyOf
 before-is bytes p (elements fs) es b rest h = let f : es ≡ element p ∷ fs = cc in rw (f, rest fs refl) (sym b)
 before-is bytes p (refusal n) es b rest h = not-refused n es h
@@ -189,7 +190,7 @@ abbrev Told : TokenOutcome → Type 0
 Told (elements es) = Unit {0}
 Told (refusal n) = 0 < n
 
-before-told : (e : Element) (o : TokenOutcome) → Told o → Told (before e o)
+before-told : (e : Element) (o : TokenOutcome) → Told o → Told (followed (elements (e ∷ [])) o)
 before-told e (elements es) h = h
 before-told e (refusal n) h = h
 
