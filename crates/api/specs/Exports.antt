@@ -5,9 +5,9 @@ use mathlib.Core.List.{List}
 use lib.Dec.{eqb, leb}
 use lib.ListN.{length, getD}
 use Rattle.sensor_set.specs.declared.SensorColumns.{SensorColumns}
-use Rattle.token_reader.specs.Read.{elements, refusal}
-use Rattle.token_reader.specs.Read.{TokenOutcome}
-use Rattle.token_writer.specs.Write.{codesOf, elementsOf, bytesOf, writeAnswer, writtenAfter, outputAfter}
+use Rattle.token_reader.specs.Format.{bytesOf}
+use Rattle.token_reader.specs.Read.{TokenOutcome, elements, refusal}
+use Rattle.token_writer.specs.Write.{codesOf, elementsOf, writeAnswer, writtenAfter, outputAfter}
 use Rattle.band_columns.specs.declared.BandColumns.{BandColumns}
 use Rattle.drive.specs.declared.Kind.{Kind}
 use Rattle.drive.specs.declared.Kind.the-variants as K

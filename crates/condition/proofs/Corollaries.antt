@@ -1,5 +1,4 @@
--- What follows of condition 3 for one struck event, and for a list in which nothing but time and resets can reach the band. That a list
--- and its own compared list leave the band alike is `kept-alone`.
+-- What follows of condition 3 for one struck event, and for a list in which nothing but time and resets can reach the band.
 use Prim.Native.Nat.{ℕ, zero, suc}
 use mathlib.Core.Path.{_≡_, ap, _∙_, fun-ext}
 use mathlib.Core.Bool.{Bool, true, false, cond, _||_, false≢true}
@@ -15,8 +14,8 @@ use Rattle.drive.specs.Events.{Event, Shape, ticking, resetting, setting, sensi
 use Rattle.condition.specs.History.{granted, ownSet}
 use Rattle.condition.specs.Compared.{staysBy, refersIn, namedIn, stays, keep, only, compared}
 use Rattle.condition.specs.Condition.{SameBand}
+use Rattle.condition.specs.Corollaries.{All, isTime, Corollaries}
 use Rattle.condition.proofs.Agree.{settle-at, reset-at}
-use Rattle.condition.proofs.Strike.{All}
 use Rattle.condition.proofs.Isolation.{no-own-set, fresh-at, kept-alone, isolation}
 
 -- ---- one event struck
@@ -40,17 +39,13 @@ compared-without band x es fs t =
     ∙ ap (λ (N : ℕ → Bool). keep (stays (only band) N) (es ++ fs))
     (fun-ext (λ r. any-without (ownSet band (refersIn r)) x (no-own-set band (namedIn band (es ++ (x ∷ fs))) (refersIn r) x t) es fs))
 
-pub struck-never-moves : (capacity bands sensors band : ℕ) (x : Event) (es fs : List Event)
+struck-never-moves : (capacity bands sensors band : ℕ) (x : Event) (es fs : List Event)
     → stays (only band) (namedIn band (es ++ (x ∷ fs))) x ≡ false
     → SameBand band (freshDrive capacity bands sensors) (es ++ (x ∷ fs)) (es ++ fs)
 struck-never-moves capacity bands sensors band x es fs t =
     isolation capacity bands sensors band (es ++ (x ∷ fs)) (es ++ fs) (compared-without band x es fs t)
 
 -- ---- nothing but time and resets
-
--- what stays where no band and no sensor is meant: an elapse or a reset
-abbrev pub isTime : Event → Type 0
-isTime x = stays (λ b. false) (λ s. false) x ≡ true
 
 module _ (band : ℕ) where
   settle-fresh : (d : Drive) → rowAt d band ≡ freshRow → rowAt (settleOf d) band ≡ freshRow
@@ -86,15 +81,23 @@ module _ (band : ℕ) where
   run-fresh [] d a e = e
   run-fresh (x ∷ es) d (t, a) e = run-fresh es (stepOf d x) a (step-fresh d x t e)
 
-pub only-time : (capacity bands sensors band : ℕ) (es : List Event) → All isTime (compared band es)
-    → (rowAt (runOf (freshDrive capacity bands sensors) es) band ≡ freshRow) × (valueAt (runOf (freshDrive capacity bands sensors) es) band ≡ false)
-unfolding freshRow
-only-time capacity bands sensors band es a = (row, ap (valueIn (conditionsOf after)) row ∙ value-empty (conditionsOf after))
-  where
-    after : Drive
-    after = runOf (freshDrive capacity bands sensors) es
+module _ (capacity bands sensors band : ℕ) (es : List Event) (a : All isTime (compared band es)) where
+  abbrev after : Drive
+  after = runOf (freshDrive capacity bands sensors) es
 
-    row : rowAt after band ≡ freshRow
-    row =
-        kept-alone capacity bands sensors band es .row
-        ∙ run-fresh band (compared band es) (freshDrive capacity bands sensors) a (fresh-at capacity bands sensors band)
+  only-time-row : rowAt after band ≡ freshRow
+  only-time-row =
+      kept-alone capacity bands sensors band es .row
+      ∙ run-fresh band (compared band es) (freshDrive capacity bands sensors) a (fresh-at capacity bands sensors band)
+
+  only-time-value : valueAt after band ≡ false
+  unfolding freshRow
+  only-time-value = ap (valueIn (conditionsOf after)) only-time-row ∙ value-empty (conditionsOf after)
+
+pub corollaries : Corollaries
+corollaries = record {
+  kept-alone = kept-alone;
+  struck-never-moves = struck-never-moves;
+  only-time-row = only-time-row;
+  only-time-value = only-time-value;
+}

@@ -18,7 +18,8 @@ use Rattle.drive.specs.Events.{Event, Shape, ticking, resetting, setting, sensi
 use Rattle.condition.specs.History.{ownSet}
 use Rattle.condition.specs.Compared.{staysBy, refersIn, namedIn, stays, only, compared, answerTo, answersTo}
 use Rattle.condition.specs.Condition.{SameBand}
-use Rattle.condition.proofs.Strike.{All, runs, outs, strike}
+use Rattle.condition.specs.Corollaries.{All}
+use Rattle.condition.proofs.Strike.{runs, outs, strike}
 use Rattle.condition.proofs.Agree.{Settled, Agree, Fit, band-value, answer-same, step-kept, step-struck}
 
 module _ (band : ℕ) where

@@ -3,11 +3,7 @@ use mathlib.Core.Path.{_≡_, refl}
 use mathlib.Core.Bool.{Bool, true, false, cond}
 use mathlib.Core.List.{List, [], _∷_, _++_}
 use Rattle.condition.specs.Compared.{keep}
-
--- every element of a list
-abbrev pub All : {A : Type 0} → (A → Type 0) → List A → Type 0
-All P [] = Unit {0}
-All P (x ∷ l) = P x × All P l
+use Rattle.condition.specs.Corollaries.{All}
 
 module _ {D E O : Type 0} (step : D → E → D) (out : D → E → List O) where
   abbrev pub runs : D → List E → D

@@ -1,3 +1,4 @@
 pub mod History
 pub mod Compared
 pub mod Condition
+pub mod Corollaries

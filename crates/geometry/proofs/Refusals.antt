@@ -9,9 +9,12 @@ use borrow.Author.Tests.{eqb-false, not-false}
 use lib.Dec.{eqb}
 use Rattle.base.specs.Rows.{isRow}
 use Rattle.base.proofs.Cases.{cond-true, cond-false}
+use Rattle.answer.specs.declared.Answer.{Answer}
+use Rattle.answer.specs.Numbers.{numberOf}
 use Rattle.geometry.specs.declared.Span.{Span}
+use Rattle.geometry.specs.declared.Placed.{Placed}
 use Rattle.geometry.specs.Blocks.{bandSpans, overlapping}
-use Rattle.geometry.specs.Events.{pastEnd, transferAnswer, placed, placeAnswer, LockedTransfer, Allowed, OverlapRefused}
+use Rattle.geometry.specs.Events.{pastEnd, transferAnswer, placed, placeAnswer, Places, LockedTransfer, Allowed, OverlapRefused}
 use Rattle.geometry.proofs.Ranges.{any-there, any-at}
 use Rattle.geometry.proofs.Sharing.{shared-there, shared-at}
 use Rattle.base.proofs.Rows.{row-is}
@@ -52,9 +55,11 @@ module _ (capacity bands : ℕ) (spans : List Span) (closed : List Bool) (start 
       (cond-false _ _ _ _ (up-to-end _ _ _ (r .begins) (r .ends))
       (cond-true _ _ _ _ (any-at _ _ _ _ (r .touched .after) (r .touched .short) (r .touched .holds)) refl))
 
-  -- P10
-  pub transfer-locked : (transferAnswer capacity bands spans closed start count ≡ 9) ↔ LockedTransfer capacity bands spans closed start count
-  transfer-locked = (locked-there, locked-at)
+  -- P10: both promises of a transfer
+  pub and-locked : (r : Answer) → numberOf r ≡ transferAnswer capacity bands spans closed start count
+      → (numberOf r ≡ transferAnswer capacity bands spans closed start count)
+      × ((numberOf r ≡ 9) ↔ LockedTransfer capacity bands spans closed start count)
+  and-locked r e = (e, (λ q. locked-there (sym e ∙ q), λ l. e ∙ locked-at l))
 
 module _ (capacity bands : ℕ) (spans : List Span) (band start length : ℕ) where
   -- an answer that is none of 1, 5 and 6
@@ -79,6 +84,8 @@ module _ (capacity bands : ℕ) (spans : List Span) (band start length : ℕ) wh
   overlap-at : OverlapRefused capacity bands spans band start length → placeAnswer capacity bands spans band start length ≡ 7
   overlap-at r = placing capacity bands spans band start length (r .allowed) ∙ sym (cond-true _ _ _ _ (shared-at _ _ (r .shared)) refl)
 
-  -- P11
-  pub place-overlap : (placeAnswer capacity bands spans band start length ≡ 7) ↔ OverlapRefused capacity bands spans band start length
-  place-overlap = (overlap-there, overlap-at)
+  -- P11: both promises of a geometry
+  pub and-overlap : (r : Placed) → Places capacity bands spans band start length r
+      → Places capacity bands spans band start length r
+      × ((numberOf (r .answer) ≡ 7) ↔ OverlapRefused capacity bands spans band start length)
+  and-overlap r p = (p, (λ q. overlap-there (sym (p .answer) ∙ q), λ o. p .answer ∙ overlap-at o))

@@ -60,8 +60,9 @@ pub record Within (capacity : ℕ) (s : Span) : Type 0 where
   pub begins : s .start ≤ capacity
   pub ends : s .start + s .length ≤ capacity
 
--- When a transfer gets 9, and a geometry 7, in words of blocks; the theorems `transfer-locked` and `place-overlap` say that it is exactly then.
+-- When a transfer gets 9, and a geometry 7, in words of blocks: the promises of `transfer` and `place` say that it is exactly then.
 
+-- "A transfer is refused with 9 exactly when some block's band has that direction's side enabled and locked"
 pub record LockedTransfer (capacity bands : ℕ) (spans : List Span) (closed : List Bool) (start count : ℕ) : Type 0 where
   -- the transfer starts at the capacity or before it
   pub begins : start ≤ capacity
@@ -83,6 +84,7 @@ pub record Allowed (capacity bands band start length : ℕ) : Type 0 where
   -- and ends there or before
   pub ends : length ≤ capacity - start
 
+-- "overlap: two non-empty bands would share a block"
 pub record OverlapRefused (capacity bands : ℕ) (spans : List Span) (band start length : ℕ) : Type 0 where
   -- no refusal with a lower number applies
   pub allowed : Allowed capacity bands band start length

@@ -2,11 +2,12 @@
 ghost use mathlib.Core.Path.{_≡_};
 ghost use mathlib.Core.Bool.{true, false, _&&_, _||_};
 ghost use mathlib.Core.List.{foldl};
+ghost use mathlib.Core.Logic.{_↔_};
 ghost use Prim.Native.Nat.{_+_, _<_, min};
 ghost use lib.ListN.{take, drop};
 ghost use Rattle.answer.specs.Numbers.{numberOf};
 ghost use Rattle.geometry.specs.Blocks.{covers, meetsOf, meetsAny, overlapping, bandSpans, touchesOf};
-ghost use Rattle.geometry.specs.Events.{noSpan, pastEnd, transferAnswer, Places};
+ghost use Rattle.geometry.specs.Events.{noSpan, pastEnd, transferAnswer, Places, LockedTransfer, OverlapRefused};
 ghost use Rattle.geometry.specs.Parts.{Alike, OneBand, Barred};
 use answer::Answer;
 
@@ -207,6 +208,7 @@ pub fn transfer(
     count: u64,
 ) -> Answer
     ensures { λ r. ⌜ numberOf r ≡ transferAnswer capacity bands spans closed start count ⌝ }
+    ensures locked { λ r. ⌜ (numberOf r ≡ 9) ↔ LockedTransfer capacity bands spans closed start count ⌝ }
 {
     if past_end(capacity, start, count) {
         return Answer::PastEnd;
@@ -310,6 +312,7 @@ pub fn place(
     length: u64,
 ) -> Placed
     ensures { λ r. ⌜ Places capacity bands spans band start length r ⌝ }
+    ensures overlap { λ r. ⌜ (numberOf (r .answer) ≡ 7) ↔ OverlapRefused capacity bands spans band start length ⌝ }
 {
     if 16 <= band {
         return refusal(Answer::NoRow, spans);

@@ -25,7 +25,7 @@ use Rattle.phases.specs.declared.Cause.the-variants.{
   Disabled,
   PowerCycle,
 }
-use Rattle.phases.specs.Phases.{phaseNumber, columnOf, moveOf}
+use Rattle.phases.specs.Phases.{phaseNumber, columnOf, moveOf, numberAfter}
 
 -- the phases and the causes in the order of their numbers
 
@@ -116,3 +116,8 @@ rule table t p c = same-move (entry table p c) (moveOf p c) at-c
 
     at-c : right table p c ≡ true
     at-c = rw cause-back at (every-at (right table p) causes (columnOf c) TrueAtOnce at-p (column-below c))
+
+-- both promises of `moved`
+pub and-listed : (p : Phase) (c : Cause) (m : Move) → m ≡ moveOf p c
+    → (m ≡ moveOf p c) × (numberAfter m (phaseNumber p) ≡ numberAfter (moveOf p c) (phaseNumber p))
+and-listed p c m e = (e, ap (λ (x : Move). numberAfter x (phaseNumber p)) e)

@@ -84,6 +84,12 @@ moveOf p EnabledFalse = whenDisabled p SS2
 moveOf p Disabled = Enters SS0
 moveOf p PowerCycle = Enters (powerCycled p)
 
+-- A move by the numbers that phases have in the listing: the number after it, from the number before it. "does nothing": the number stays;
+-- "gives SS1", "else ST0", ..: it is that phase's.
+abbrev pub numberAfter : Move → ℕ → ℕ
+numberAfter Stays before = before
+numberAfter (Enters p) before = phaseNumber p
+
 -- The level after a cause: a turn is a change of the level, and "A power cycle then sets each level FALSE".
 abbrev pub levelAfter : Cause → Bool → Bool
 levelAfter TrueAtOnce before = true

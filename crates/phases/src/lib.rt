@@ -1,6 +1,6 @@
 // The phases of a Security Sensor (document 01, 'Sensors'; 002, 4.3.2), what moves them, and the fixed table of phase against cause.
 ghost use mathlib.Core.Path.{_≡_};
-ghost use Rattle.phases.specs.Phases.{phaseNumber, columnOf, conditionIn, moveOf, levelAfter};
+ghost use Rattle.phases.specs.Phases.{phaseNumber, columnOf, conditionIn, moveOf, numberAfter, levelAfter};
 
 // The phases of 002, 4.3.2.
 pub enum Phase {
@@ -131,6 +131,7 @@ impl Phase {
     // What the table has for this phase and a cause.
     pub fn moved(self, cause: Cause) -> Move
         ensures { λ r. ⌜ r ≡ moveOf self cause ⌝ }
+        ensures listed { λ r. ⌜ numberAfter r (phaseNumber self) ≡ numberAfter (moveOf self cause) (phaseNumber self) ⌝ }
     {
         let row = self.number() as usize;
         let at = row * 10 + cause.column();

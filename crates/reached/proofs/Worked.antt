@@ -7,7 +7,7 @@ use lib.ListN.{length}
 use Rattle.sensor.proofs.Worked.{below-both, at-both, at-off, above-off, two-old, three-new}
 use Rattle.evaluator.specs.Value.{evaluate, valueOf}
 use Rattle.evaluator.proofs.Bits.{absent}
-use Rattle.token_writer.specs.Write.{bodyOf}
+use Rattle.token_reader.specs.Format.{bodyOf}
 use Rattle.drive.proofs.Rules.{drive-rules}
 use Rattle.reached.specs.Starred.{row, NOT, Starred}
 

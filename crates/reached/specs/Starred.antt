@@ -14,8 +14,8 @@ use Rattle.expression.specs.declared.Part.the-variants.{Reference, Operator}
 use Rattle.expression.specs.declared.Element.{Element}
 use Rattle.expression.specs.Elements.{element, elementsIn}
 use Rattle.evaluator.specs.Value.{valueOf}
+use Rattle.token_reader.specs.Format.{bytesOf}
 use Rattle.token_reader.specs.Read.{readTokens, elements}
-use Rattle.token_writer.specs.Write.{bytesOf}
 use Rattle.band_columns.specs.declared.BandColumns.{BandColumns}
 use Rattle.drive.specs.declared.Drive.{Drive}
 use Rattle.drive.specs.State.{freshDrive, rowAt}

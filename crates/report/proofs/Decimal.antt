@@ -8,6 +8,7 @@ use lib.Dec.{ltb}
 use lib.ListN.{length, getD, length-append}
 use borrow.Author.Tests.{lt-ltb, le-ltb, ltb-true, ltb-false}
 use Rattle.report.specs.Lines.{digits, decimal}
+use Rattle.report.specs.Decimal.{Digit, said, InDecimal}
 
 -- room for more digits than there are changes nothing
 enough : (k m n : ℕ) → n < k → n < m → digits k n ≡ digits m n
@@ -57,16 +58,6 @@ few-digits k n h = few (suc n) k n h
 
 -- ---- what the digits say
 
--- a byte is a digit's
-pub record Digit (b : ℕ) : Type 0 where
-  pub low : 48 ≤ b
-  pub high : b ≤ 57
-
--- the number that bytes say in decimal, after a number that was said before them
-abbrev pub said : ℕ → List ℕ → ℕ
-said a [] = a
-said a (b ∷ l) = said (10 * a + (b - 48)) l
-
 said-both : (a : ℕ) (x y : List ℕ) → said a (x ++ y) ≡ said (said a x) y
 said-both a [] y = refl
 said-both a (b ∷ x) y = said-both (10 * a + (b - 48)) x y
@@ -83,11 +74,6 @@ digits-said (suc k) n h = go (digits-said k (n / 10)) (ltb n 10) refl
         let l = ltb-false n 10 p in
         let e = ih (omega (arith, h, l)) in
         said-both 0 (digits k (n / 10)) ((48 + n % 10) ∷ []) ∙ omega (arith, e)
-
--- the digits of n say n
-pub decimal-said : (n : ℕ) → said 0 (decimal n) ≡ n
-unfolding decimal
-decimal-said n = digits-said (suc n) n (omega arith)
 
 -- every byte is a digit
 digits-are : (k n i : ℕ) → i < length (digits k n) → Digit (getD (digits k n) i 0)
@@ -109,10 +95,6 @@ digits-are (suc k) n i h = go (digits-are k (n / 10)) (ltb n 10) refl i h
         → Digit (getD (cond t ((48 + n) ∷ []) (digits k (n / 10) ++ ((48 + n % 10) ∷ []))) i 0)
     go ih true p i h = one (48 + n) i (record { low = omega arith; high = omega (arith, ltb-true n 10 p) }) h
     go ih false p i h = both (digits k (n / 10)) (48 + n % 10) i ih (record { low = omega arith; high = omega arith }) h
-
-pub decimal-digits : (n i : ℕ) → i < length (decimal n) → Digit (getD (decimal n) i 0)
-unfolding decimal
-decimal-digits n i h = digits-are (suc n) n i h
 
 -- only 0 begins with a 0
 
@@ -142,6 +124,10 @@ digits-first (suc k) n h e = go (digits-first k (n / 10)) (ltb n 10) refl e
         let m : n / 10 < k = omega (arith, h, l) in
         first (digits k (n / 10)) (48 + n % 10) (ih m) l (some k (n / 10) m) e
 
-pub no-leading-zero : (n : ℕ) → getD (decimal n) 0 0 ≡ 48 → n ≡ 0
+pub in-decimal : InDecimal
 unfolding decimal
-no-leading-zero n e = digits-first (suc n) n (omega arith) e
+in-decimal = record {
+  says = λ n. digits-said (suc n) n (omega arith);
+  of-digits = λ n i h. digits-are (suc n) n i h;
+  no-leading-zero = λ n e. digits-first (suc n) n (omega arith) e;
+}

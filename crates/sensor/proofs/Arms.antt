@@ -11,7 +11,7 @@ use Rattle.phases.specs.declared.Move.{Move}
 use Rattle.phases.specs.declared.Move.the-variants.{Stays, Enters}
 use Rattle.phases.specs.declared.Cause.{Cause}
 use Rattle.sensor.specs.declared.single.Sensor.{Sensor}
-use Rattle.phases.specs.Phases.{moveOf, levelAfter}
+use Rattle.phases.specs.Phases.{phaseNumber, moveOf, numberAfter, levelAfter}
 use Rattle.sensor.specs.Single.{withLevel, movedBy, entering, afterCause, turnCause, turnedTo, judgeOf, readingOf, readingAnswer, withTimer}
 use Rattle.sensor.specs.Parts.{quietOf, loweredBy}
 use Rattle.sensor.specs.Level.{greatestReading}
@@ -29,6 +29,16 @@ module _ (c : Cause) (s n : Sensor) (l : Bool) (m : Move) (el : l ≡ levelAfter
 
   pub enters : (p : Phase) (r : Sensor) → m ≡ Enters p → r ≡ entering p n → r ≡ afterCause c s
   enters p r e q = q ∙ ap (λ (x : Move). movedBy x n) (sym e) ∙ stepped
+
+-- the phase's number in the listing is that of the move
+pub and-listed : (c : Cause) (s r : Sensor) → r ≡ afterCause c s
+    → (r ≡ afterCause c s) × (phaseNumber (r .phase) ≡ numberAfter (moveOf (s .phase) c) (phaseNumber (s .phase)))
+unfolding afterCause
+and-listed c s r e = (e, ap (λ (x : Sensor). phaseNumber (x .phase)) e ∙ go (moveOf (s .phase) c))
+  where
+    go : (m : Move) → phaseNumber (movedBy m (withLevel (levelAfter c (s .level)) s) .phase) ≡ numberAfter m (phaseNumber (s .phase))
+    go Stays = refl
+    go (Enters p) = refl
 
 pub turned : (l t : Bool) (s r : Sensor) (c : Cause) → t ≡ Bool·beq l (s .level) → t ≡ false → c ≡ turnCause l s → r ≡ afterCause c s
     → r ≡ turnedTo l s

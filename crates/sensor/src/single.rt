@@ -1,6 +1,7 @@
 // One sensor, by value: what each event and each tick makes of it.
 ghost use mathlib.Core.Path.{_≡_};
 ghost use mathlib.Core.Bool.{true, Bool·beq};
+ghost use Rattle.phases.specs.Phases.{phaseNumber, moveOf, numberAfter};
 ghost use Rattle.sensor.specs.Level.{thousandths, levelRule};
 ghost use Rattle.sensor.specs.Single.{freshSensor, judgeOf, withLevel, withTimer, timerIn, entering, afterCause, turnCause, turnedTo, readingAnswer, readingOf, enableCause, enableOf, disableOf, powerCycleOf, sensorTick, runs, endsNext, Answers};
 ghost use Rattle.sensor.specs.Parts.{loweredBy, quietOf};
@@ -106,6 +107,7 @@ impl Sensor {
     // The sensor after a cause.
     pub fn step(self, cause: Cause) -> Sensor
         ensures { λ r. ⌜ r ≡ afterCause cause self ⌝ }
+        ensures listed { λ r. ⌜ phaseNumber (r .phase) ≡ numberAfter (moveOf (self .phase) cause) (phaseNumber (self .phase)) ⌝ }
     {
         let phase = self.phase;
         let level = cause.level(self.level);

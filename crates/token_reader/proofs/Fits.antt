@@ -15,7 +15,7 @@ use Rattle.expression.specs.Elements.{element, PartFits, AllFit}
 use Rattle.token_reader.specs.declared.Head.{Head}
 use Rattle.token_reader.specs.declared.Head.the-variants.{Is, Broken}
 use Rattle.token_reader.specs.Format.{Bytes, fourBytes, referencePrefix, operatorPrefix, startsWith, referenceIn, operatorIn, partIn, widthOf, isEnd}
-use Rattle.token_reader.specs.Read.{mostTokenBytes, TokenOutcome, elements, refusal, before, andThen, readElements, readList, readTokens}
+use Rattle.token_reader.specs.Read.{mostTokenBytes, TokenOutcome, elements, refusal, headOutcome, followed, andThen, readElements, readList, readTokens}
 
 -- a claim about what a choice gave, from either arm
 pub by-arm : {A P : Type 0} (t : Bool) (x y r : A) → cond t x y ≡ r → (t ≡ true → x ≡ r → P) → (t ≡ false → y ≡ r → P) → P
@@ -68,7 +68,7 @@ none-fits room es e = let f : es ≡ [] = cc in rw f (omega arith, tt)
 
 -- an element in front of what fits
 before-fits : (room : ℕ) (p : Part) (o : TokenOutcome) (es : List Element) → PartFits p → ((fs : List Element) → o ≡ elements fs → Fits room fs)
-    → before (element p) o ≡ elements es → Fits (suc room) es
+    → followed (headOutcome (Is p)) o ≡ elements es → Fits (suc room) es
 before-fits room p (elements fs) es k rest h =
     let f : es ≡ element p ∷ fs = cc in
     let g = rest fs refl in

@@ -19,7 +19,7 @@ use Rattle.token_reader.specs.declared.Head.{Head}
 use Rattle.token_reader.specs.declared.Head.the-variants.{Is, Broken}
 use Rattle.token_reader.specs.declared.Tokens.{Tokens}
 use Rattle.token_reader.specs.Format.{startsWith, partIn, widthOf, isEnd}
-use Rattle.token_reader.specs.Read.{mostTokenBytes, TokenOutcome, elements, refusal, before, readElements, readList, readTokens, Tells}
+use Rattle.token_reader.specs.Read.{mostTokenBytes, TokenOutcome, elements, refusal, followed, readElements, readList, readTokens, Tells}
 use Rattle.token_reader.specs.Parts.{refused}
 
 -- a refusal that the code makes tells an outcome of the same number
@@ -37,14 +37,13 @@ part-says f bytes at r b e h =
 
 -- the elements es, and then what an outcome has
 abbrev after : List Element → TokenOutcome → TokenOutcome
-after es (elements fs) = elements (es ++ fs)
-after es (refusal n) = refusal n
+after es o = followed (elements es) o
 
 after-none : (o : TokenOutcome) → o ≡ after [] o
 after-none (elements fs) = refl
 after-none (refusal n) = refl
 
-after-one : (es : List Element) (e : Element) (o : TokenOutcome) → after es (before e o) ≡ after (es ++ e ∷ []) o
+after-one : (es : List Element) (e : Element) (o : TokenOutcome) → after es (after (e ∷ []) o) ≡ after (es ++ e ∷ []) o
 after-one es e (elements fs) = rw (append-assoc es (e ∷ []) fs)
 after-one es e (refusal n) = refl
 
@@ -61,7 +60,7 @@ cut zero = refl
 cut (suc room) = refl
 
 module _ (room : ℕ) (bytes : List ℕ) (f : isEnd bytes ≡ false) where
-  goes-on : (p : Part) → partIn bytes ≡ Is p → readElements (suc room) bytes ≡ before (element p) (readElements room (drop (widthOf p) bytes))
+  goes-on : (p : Part) → partIn bytes ≡ Is p → readElements (suc room) bytes ≡ after (element p ∷ []) (readElements room (drop (widthOf p) bytes))
   unfolding readElements
   goes-on p h = rw (f, h)
 

@@ -1,7 +1,7 @@
 -- The numbers that reading answers: done, 3 or 4, and 2 only above 1,024 bytes.
 use mathlib.Core.Path.{_≡_, refl}
 use mathlib.Core.Logic.{_⊎_, inl, inr}
-use mathlib.Core.List.{List, []}
+use mathlib.Core.List.{List, [], _∷_}
 use Prim.Native.Nat.{ℕ, zero, suc, _≤_}
 use lib.Dec.{eqb}
 use lib.ListN.{length, getD, drop}
@@ -12,7 +12,7 @@ use Rattle.expression.specs.Elements.{element}
 use Rattle.token_reader.specs.declared.Head.{Head}
 use Rattle.token_reader.specs.declared.Head.the-variants.{Is, Broken}
 use Rattle.token_reader.specs.Format.{partIn, widthOf, isEnd}
-use Rattle.token_reader.specs.Read.{mostTokenBytes, TokenOutcome, elements, refusal, before, andThen, readElements, readList, readTokens, answerIn}
+use Rattle.token_reader.specs.Read.{mostTokenBytes, TokenOutcome, elements, refusal, followed, andThen, readElements, readList, readTokens, answerIn}
 
 abbrev pub DoneOrBroken : ℕ → Type 0
 DoneOrBroken n = (n ≡ 0) ⊎ ((n ≡ 3) ⊎ (n ≡ 4))
@@ -20,7 +20,7 @@ DoneOrBroken n = (n ≡ 0) ⊎ ((n ≡ 3) ⊎ (n ≡ 4))
 abbrev Numbered : TokenOutcome → Type 0
 Numbered o = DoneOrBroken (answerIn o)
 
-one-more : (e : Element) (o : TokenOutcome) → DoneOrBroken (answerIn o) → DoneOrBroken (answerIn (before e o))
+one-more : (e : Element) (o : TokenOutcome) → DoneOrBroken (answerIn o) → DoneOrBroken (answerIn (followed (elements (e ∷ [])) o))
 one-more e (elements es) p = inl refl
 one-more e (refusal n) p = p
 

@@ -1,11 +1,12 @@
--- Document 01, 'Expressions as tokens' (002, table 7; 003): the bytes of one element, and the end of the list.
-use Prim.Native.Nat.{ℕ, _+_, _*_, _<_}
+-- Document 01, 'Expressions as tokens' (002, table 7; 003): the bytes of a list of elements, one element in them, and the end of the list.
+use Prim.Native.Nat.{ℕ, _+_, _*_, _/_, _%_, _<_}
 use mathlib.Core.Bool.{Bool, true, false, cond, _&&_}
-use mathlib.Core.List.{List, [], _∷_}
+use mathlib.Core.List.{List, [], _∷_, _++_}
 use lib.Dec.{eqb, leb}
 use lib.ListN.{length, getD}
 use Rattle.expression.specs.declared.Part.{Part}
 use Rattle.expression.specs.declared.Part.the-variants.{Reference, Operator}
+use Rattle.expression.specs.declared.Element.{Element}
 use Rattle.token_reader.specs.declared.Head.{Head}
 use Rattle.token_reader.specs.declared.Head.the-variants.{Is, Broken}
 
@@ -24,6 +25,20 @@ operatorPrefix = 0xF2 ∷ 0xA4 ∷ 0x00 ∷ 0x00 ∷ 0x04 ∷ 0x0E ∷ []
 abbrev pub widthOf : Part → ℕ
 widthOf (Reference row) = 12
 widthOf (Operator code) = 8
+
+-- the bytes of an element
+abbrev pub partBytes : Part → List ℕ
+partBytes (Reference row) = referencePrefix ++ row / 16777216 ∷ row / 65536 % 256 ∷ row / 256 % 256 ∷ row % 256 ∷ 0xF3 ∷ []
+partBytes (Operator code) = operatorPrefix ++ code ∷ 0xF3 ∷ []
+
+-- the elements, "then F1"
+unfoldable pub bodyOf : List Element → List ℕ
+bodyOf [] = 0xF1 ∷ []
+bodyOf (e ∷ es) = partBytes (e .part) ++ bodyOf es
+
+-- "F0, then the elements, then F1, then no more bytes."
+abbrev pub bytesOf : List Element → List ℕ
+bytesOf es = 0xF0 ∷ bodyOf es
 
 -- "high first"
 abbrev pub fourBytes : ℕ → ℕ → ℕ → ℕ → ℕ

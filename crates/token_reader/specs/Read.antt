@@ -2,31 +2,38 @@
 use Prim.Native.Nat.{ℕ, zero, suc}
 use mathlib.Core.Path.{_≡_}
 use mathlib.Core.Bool.{cond}
-use mathlib.Core.List.{List, [], _∷_}
+use mathlib.Core.List.{List, [], _∷_, _++_}
 use lib.Dec.{eqb, ltb}
 use lib.ListN.{length, getD, drop}
 use Rattle.answer.specs.Numbers.{numberOf}
 use Rattle.expression.specs.declared.Element.{Element}
 use Rattle.expression.specs.declared.Expression.{Expression}
-use Rattle.expression.specs.Elements.{mostElements, element, expressionOf}
+use Rattle.expression.specs.Elements.{mostElements, element, elementsIn, expressionOf}
 use Rattle.token_reader.specs.declared.Head.{Head}
 use Rattle.token_reader.specs.declared.Head.the-variants.{Is, Broken}
 use Rattle.token_reader.specs.declared.Tokens.{Tokens}
-use Rattle.token_reader.specs.Format.{partIn, widthOf, isEnd}
+use Rattle.token_reader.specs.Format.{partIn, widthOf, isEnd, bytesOf}
 
 -- what is read: the elements, or the refusal's number
 pub data TokenOutcome : Type 0 where
   elements : List Element → TokenOutcome
   refusal : ℕ → TokenOutcome
 
--- an element, and then what follows it
-abbrev pub before : Element → TokenOutcome → TokenOutcome
-before e (elements es) = elements (e ∷ es)
-before e (refusal n) = refusal n
+-- what stands where an element may begin: that element, with the answer 0; or 3 "not tokens: the expression bytes break the token form"
+abbrev pub headOutcome : Head → TokenOutcome
+headOutcome (Is p) = elements (element p ∷ [])
+headOutcome Broken = refusal 3
 
+-- what is read first, and then what follows it
+abbrev pub followed : TokenOutcome → TokenOutcome → TokenOutcome
+followed (elements es) (elements fs) = elements (es ++ fs)
+followed (elements es) (refusal n) = refusal n
+followed (refusal n) next = refusal n
+
+-- past what is broken nothing is read
 abbrev pub andThen : List ℕ → Head → (List ℕ → TokenOutcome) → TokenOutcome
-andThen bytes (Is p) follow = before (element p) (follow (drop (widthOf p) bytes))
-andThen bytes Broken follow = refusal 3
+andThen bytes (Is p) follow = followed (headOutcome (Is p)) (follow (drop (widthOf p) bytes))
+andThen bytes Broken follow = headOutcome Broken
 
 -- The elements up to the end of the list, with room for so many. "not tokens: the expression bytes break the token form"; "too long:
 -- after 32 elements another F2 stands where an element may begin"; "of 3 and 4 the one met first from the left".
@@ -61,3 +68,7 @@ pub record Tells (o : TokenOutcome) (r : Tokens) : Type 0 where
 
 abbrev pub Reads : List ℕ → Tokens → Type 0
 Reads bytes r = Tells (readTokens bytes) r
+
+-- "tokens that are accepted are written again as the same bytes": where the answer is 0, these are the bytes of the elements handed back
+abbrev pub WrittenAgain : List ℕ → Tokens → Type 0
+WrittenAgain bytes r = numberOf (r .answer) ≡ 0 → bytesOf (elementsIn (r .expression)) ≡ bytes

@@ -3,7 +3,7 @@ ghost use mathlib.Core.Path.{_≡_};
 ghost use Prim.Native.Nat.{_+_, _*_};
 ghost use Rattle.token_reader.specs.Format.{startsWith, isEnd, fourBytes, referenceIn, operatorIn, partIn, widthOf};
 ghost use lib.ListN.{getD};
-ghost use Rattle.token_reader.specs.Read.{Reads};
+ghost use Rattle.token_reader.specs.Read.{Reads, WrittenAgain};
 ghost use Rattle.token_reader.specs.Parts.{refused, ReadsList};
 use answer::Answer;
 use expression::Element;
@@ -177,6 +177,7 @@ fn read_list(bytes: &[u8]) -> Tokens
 // The expression that the bytes are the token form of, or the refusal.
 pub fn read(bytes: &[u8]) -> Tokens
     ensures { λ r. ⌜ Reads (now (bytes .entry)) r ⌝ }
+    ensures again { λ r. ⌜ WrittenAgain (now (bytes .entry)) r ⌝ }
 {
     if MOST_BYTES < bytes.len() {
         return refuse(Answer::OutOfRange);

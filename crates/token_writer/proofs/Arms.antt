@@ -7,6 +7,8 @@ use mathlib.Core.List.{List, [], _∷_}
 use lib.Dec.{ltb, eqb}
 use lib.ListN.{length, take}
 use lib.Seq.{length-take-le, take-all}
+use mir.Syntax.{w32}
+use mir.Val.{Fits}
 use borrow.Author.Tests.{lt-ltb, le-ltb, not-true, not-false}
 use Rattle.base.specs.Spliced.{spliced}
 use Rattle.base.proofs.Cases.{cond-true, cond-false, behind, absent}
@@ -16,28 +18,36 @@ use Rattle.answer.specs.declared.Answer.the-variants.{Done, OutOfRange, TooLong
 use Rattle.answer.specs.Numbers.{numberOf}
 use Rattle.expression.specs.declared.Element.{Element}
 use Rattle.expression.specs.declared.Expression.{Expression}
-use Rattle.expression.specs.Elements.{elementsIn}
+use Rattle.expression.specs.Elements.{element, elementsIn}
 use Rattle.expression.specs.declared.Part.{Part}
 use Rattle.expression.specs.declared.Part.the-variants.{Reference, Operator}
-use Rattle.token_reader.specs.Format.{referencePrefix, operatorPrefix, widthOf}
+use Rattle.token_reader.specs.Format.{referencePrefix, operatorPrefix, widthOf, partBytes, bytesOf}
 use Rattle.token_writer.specs.declared.Written.{Written}
 use Rattle.token_writer.specs.Write.{
+  partOf,
   codeOf,
   codesOf,
   codesFit,
   elementsOf,
-  partBytes,
-  bytesOf,
   neededFor,
   writeAnswer,
   outputAfter,
   writtenAfter,
   Writes,
+  ReadsBack,
 }
-use Rattle.token_writer.proofs.RoundTrip.{needed-is}
+use Rattle.token_writer.proofs.RoundTrip.{needed-is, part-back, operator-back}
 
 pub code-operator : (p : Part) (n : ℕ) → p ≡ Operator n → 4294967296 + n ≡ codeOf p
 code-operator p n e = sym (ap codeOf e)
+
+-- the number of an element, as the element again
+
+pub back-reference : (p : Part) (n : ℕ) → p ≡ Reference n → Fits w32 n → partOf n ≡ p
+back-reference p n e h = part-back (Reference n) (omega (arith, h)) ∙ sym e
+
+pub back-operator : (p : Part) (n : ℕ) → p ≡ Operator n → partOf (4294967296 + n) ≡ p
+back-operator p n e = operator-back n ∙ sym e
 
 -- one element: there is room for its first bytes and for its last, and the two are its bytes
 
@@ -124,6 +134,23 @@ pub codes-taken : (es : List Element) (n : ℕ) → take n (codesOf es) ≡ code
 codes-taken es zero = refl
 codes-taken [] (suc n) = refl
 codes-taken (e ∷ es) (suc n) = ap (λ (r : List ℕ). codeOf (e .part) ∷ r) (codes-taken es n)
+
+-- the elements of the first numbers are the first elements
+elements-taken : (codes : List ℕ) (n : ℕ) → elementsOf (take n codes) ≡ take n (elementsOf codes)
+elements-taken codes zero = refl
+elements-taken [] (suc n) = refl
+elements-taken (k ∷ codes) (suc n) = ap {B = List Element} (λ r. element (partOf k) ∷ r) (elements-taken codes n)
+
+module _ (x : Expression) (list : List ℕ) (r : Written) (after : List ℕ) (e : elementsOf list ≡ x .elements) where
+  pub back-first : ReadsBack (elementsOf (take (x .count) list)) r after → ReadsBack (elementsIn x) r after
+  back-first b =
+      let q : elementsOf (take (x .count) list) ≡ elementsIn x = elements-taken list (x .count) ∙ ap (take (x .count)) e in
+      rw q at b
+
+  pub back-all : length (x .elements) ≡ 32 → 32 ≤ x .count → ReadsBack (elementsOf list) r after → ReadsBack (elementsIn x) r after
+  back-all l h b =
+      let q : elementsOf list ≡ elementsIn x = e ∙ sym (take-all (x .count) (x .elements) (omega arith)) in
+      rw q at b
 
 module _ (x : Expression) (list out : List ℕ) (r : Written) (after : List ℕ) (e : list ≡ codesOf (x .elements)) where
   pub write-first : Writes (take (x .count) list) out r after → Writes (codesOf (elementsIn x)) out r after

@@ -1,7 +1,7 @@
 -- The passes over a list of numbers, a number a turn: each record is what the loop knows after i turns, with the laws of its start, a turn
 -- and its end.
 use mathlib.Core.Path.{_≡_, refl, sym, ap, _∙_}
-use Prim.Native.Nat.{ℕ, zero, suc, _+_, _*_, _≤_, _<_}
+use Prim.Native.Nat.{ℕ, zero, suc, _+_, _-_, _*_, _≤_, _<_}
 use native.Mathlib.Nat.{add-assoc}
 use native.Mathlib.Numerals.{add-one}
 use native.Mathlib.Omega.{arith}
@@ -16,11 +16,14 @@ use borrow.Author.Tests.{le-leb, lt-leb, leb-true}
 use Rattle.base.specs.Spliced.{spliced}
 use Rattle.base.proofs.Spliced.{splice-twice, set-splice}
 use Rattle.base.proofs.Cases.{and-left, and-right}
+use Rattle.base.proofs.Loops.{Filled, fill-begin as filled-begin, fill-again as filled-again, fill-done as filled-done}
 use Rattle.expression.specs.declared.Part.{Part}
 use Rattle.expression.specs.declared.Part.the-variants.{Reference, Operator}
-use Rattle.token_reader.specs.Format.{widthOf}
+use Rattle.expression.specs.declared.Element.{Element}
+use Rattle.expression.specs.Elements.{element}
+use Rattle.token_reader.specs.Format.{widthOf, partBytes, bodyOf, bytesOf}
 use Rattle.token_reader.proofs.Listing.{width-most}
-use Rattle.token_writer.specs.Write.{partOf, codesFit, elementsOf, partBytes, bodyOf, bytesOf, neededFor}
+use Rattle.token_writer.specs.Write.{partOf, codeOf, codesOf, codesFit, elementsOf, neededFor}
 
 -- the numbers from place i on
 rest : (codes : List ℕ) (i : ℕ) → i < length codes → drop i codes ≡ getD codes i 0 ∷ drop (i + 1) codes
@@ -57,6 +60,43 @@ unfolding codesFit
 fits-at [] i f h = absurd (omega arith)
 fits-at (n ∷ codes) zero f h = leb-true n 4294967298 (and-left (leb n 4294967298) (codesFit codes) f)
 fits-at (n ∷ codes) (suc i) f h = fits-at codes i (and-right (leb n 4294967298) (codesFit codes) f) (omega arith)
+
+-- the numbers of an array's elements: those of the first i are written, and each says its element
+
+abbrev first : Element
+first = element (Reference 0)
+
+abbrev Says : Element → Type 0
+Says e = partOf (codeOf (e .part)) ≡ e .part
+
+pub record Numbering (es : List Element) (out₀ out : List ℕ) (i : ℕ) : Type 0 where
+  pub filled : Filled (λ (e : Element). codeOf (e .part)) 32 es out₀ out i
+  pub says : (j : ℕ) → j < i → Says (getD es j first)
+
+pub number-begin : (es : List Element) (out : List ℕ) → length es ≡ 32 → length out ≡ 32 → Numbering es out out 0
+number-begin es out h k = record { filled = filled-begin _ 32 es out h k; says = λ j l. absurd (omega arith) }
+
+all-say : (es : List Element) → ((j : ℕ) → j < length es → Says (getD es j first)) → elementsOf (codesOf es) ≡ es
+all-say [] h = refl
+all-say (e ∷ es) h = rw (h 0 (omega arith), all-say es (λ j l. h (suc j) (omega arith)))
+
+module _ (es : List Element) (out₀ out : List ℕ) (i : ℕ) (n : Numbering es out₀ out i) where
+  pub number-again : (v : ℕ) → i < 32 → v ≡ codeOf (getD es i first .part) → partOf v ≡ getD es i first .part
+      → Numbering es out₀ (set out i v) (i + 1)
+  number-again v l e b = record {
+    filled = filled-again _ 32 es out₀ out i v first (n .filled) l e;
+    says = λ j h. go j (i - j) refl h;
+  }
+    where
+      go : (j k : ℕ) → i - j ≡ k → j < i + 1 → Says (getD es j first)
+      go j zero q h = let s : j ≡ i = omega arith in rw s (ap partOf (sym e) ∙ b)
+      go j (suc k) q h = n .says j (omega arith)
+
+  pub number-done : 32 ≤ i → out ≡ codesOf es
+  number-done h = filled-done _ 32 es out₀ out i (n .filled) h
+
+  pub number-back : 32 ≤ i → elementsOf out ≡ es
+  number-back h = ap elementsOf (number-done h) ∙ all-say es (λ j l. n .says j (omega (arith, n .filled .long)))
 
 -- the bytes needed
 

@@ -1,11 +1,11 @@
 -- Document 01, 'Expressions as tokens': "The writer takes an element list, whose operator codes are 0 to 2 (else 2), at most 32 elements
 -- (else 4). It fills exactly the bytes needed from the start of the output."
-use Prim.Native.Nat.{ℕ, _+_, _-_, _/_, _%_}
+use Prim.Native.Nat.{ℕ, _+_, _-_}
 use mathlib.Core.Path.{_≡_}
 use mathlib.Core.Bool.{Bool, true, not, cond, _&&_}
-use mathlib.Core.List.{List, [], _∷_, _++_, map}
+use mathlib.Core.List.{List, [], _∷_, map}
 use lib.Dec.{eqb, leb, ltb}
-use lib.ListN.{length}
+use lib.ListN.{length, take}
 use Rattle.base.specs.Refusals.{Refusal, when, firstOf}
 use Rattle.base.specs.Spliced.{spliced}
 use Rattle.answer.specs.Numbers.{numberOf}
@@ -13,7 +13,8 @@ use Rattle.expression.specs.declared.Part.{Part}
 use Rattle.expression.specs.declared.Part.the-variants.{Reference, Operator}
 use Rattle.expression.specs.declared.Element.{Element}
 use Rattle.expression.specs.Elements.{mostElements, element}
-use Rattle.token_reader.specs.Format.{referencePrefix, operatorPrefix, widthOf}
+use Rattle.token_reader.specs.Format.{widthOf, bytesOf}
+use Rattle.token_reader.specs.Read.{elements, readTokens}
 use Rattle.token_writer.specs.declared.Written.{Written}
 
 -- An element as a number: a row below 2^32, and 2^32 plus the code of an operator.
@@ -34,20 +35,6 @@ codesOf es = map (λ e. codeOf (e .part)) es
 unfoldable pub codesFit : List ℕ → Bool
 codesFit [] = true
 codesFit (n ∷ codes) = leb n 4294967298 && codesFit codes
-
--- the bytes of an element
-abbrev pub partBytes : Part → List ℕ
-partBytes (Reference row) = referencePrefix ++ row / 16777216 ∷ row / 65536 % 256 ∷ row / 256 % 256 ∷ row % 256 ∷ 0xF3 ∷ []
-partBytes (Operator code) = operatorPrefix ++ code ∷ 0xF3 ∷ []
-
--- the elements, "then F1"
-unfoldable pub bodyOf : List Element → List ℕ
-bodyOf [] = 0xF1 ∷ []
-bodyOf (e ∷ es) = partBytes (e .part) ++ bodyOf es
-
--- "F0, then the elements, then F1"
-abbrev pub bytesOf : List Element → List ℕ
-bytesOf es = 0xF0 ∷ bodyOf es
 
 -- the bytes needed: 2, and 12 for each reference and 8 for each operator
 unfoldable pub neededFor : List Element → ℕ
@@ -78,3 +65,7 @@ pub record Writes (codes out : List ℕ) (r : Written) (after : List ℕ) : Type
   pub answer : numberOf (r .answer) ≡ writeAnswer codes (length out)
   pub count : r .count ≡ writtenAfter (writeAnswer codes (length out)) (bytesOf (elementsOf codes))
   pub output : after ≡ outputAfter (writeAnswer codes (length out)) (bytesOf (elementsOf codes)) out
+
+-- "An expression written as tokens reads back as itself": where the answer is 0, the bytes written read to these elements
+abbrev pub ReadsBack : List Element → Written → List ℕ → Type 0
+ReadsBack es r after = numberOf (r .answer) ≡ 0 → readTokens (take (r .count) after) ≡ elements es

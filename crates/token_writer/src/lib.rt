@@ -5,17 +5,16 @@ ghost use Prim.Native.Nat.{_+_, _≤_};
 ghost use lib.ListN.{length};
 ghost use Rattle.base.specs.Spliced.{spliced};
 ghost use Rattle.expression.specs.Elements.{elementsIn};
-ghost use Rattle.token_reader.specs.Format.{widthOf};
+ghost use Rattle.token_reader.specs.Format.{widthOf, partBytes, bytesOf};
 ghost use Rattle.token_writer.specs.Write.{
   partOf,
   codeOf,
   codesFit,
   codesOf,
   elementsOf,
-  partBytes,
-  bytesOf,
   neededFor,
   Writes,
+  ReadsBack,
 };
 use answer::Answer;
 use expression::Element;
@@ -50,6 +49,7 @@ fn part(code: u64) -> Part
 // The number of an element in the list.
 fn code(part: Part) -> u64
     ensures { λ r. ⌜ r ≡ codeOf part ⌝ }
+    ensures back { λ r. ⌜ partOf r ≡ part ⌝ }
 {
     match part {
         Part::Reference(row) => row as u64,
@@ -143,6 +143,7 @@ fn fill(codes: &[u64], out: &mut [u8])
 // a code is an operator. A refusal leaves the output as it was.
 pub fn write(codes: &[u64], out: &mut [u8]) -> Written
     ensures { λ r. ⌜ Writes (now (codes .entry)) (now (out .entry)) r (now (out .exit)) ⌝ }
+    ensures back { λ r. ⌜ ReadsBack (elementsOf (now (codes .entry))) r (now (out .exit)) ⌝ }
 {
     if !fit(codes) {
         return Written {
@@ -173,6 +174,7 @@ pub fn write(codes: &[u64], out: &mut [u8]) -> Written
 // The numbers of an expression's first 32 elements.
 pub fn codes(elements: [Element; 32]) -> [u64; 32]
     ensures { λ r. ⌜ r ≡ codesOf elements ⌝ }
+    ensures back { λ r. ⌜ elementsOf r ≡ elements ⌝ }
 {
     let mut out = [0; 32];
     for i in 0..32 {
@@ -186,6 +188,7 @@ pub fn codes(elements: [Element; 32]) -> [u64; 32]
 // Writes the token form of an expression, as `write` does of its list of elements.
 pub fn write_expression(expression: Expression, out: &mut [u8]) -> Written
     ensures { λ r. ⌜ Writes (codesOf (elementsIn expression)) (now (out .entry)) r (now (out .exit)) ⌝ }
+    ensures back { λ r. ⌜ ReadsBack (elementsIn expression) r (now (out .exit)) ⌝ }
 {
     let elements = expression.elements;
     let list = codes(elements);

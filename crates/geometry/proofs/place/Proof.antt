@@ -3,6 +3,7 @@ use Rattle.base.proofs.Cases.{behind, absent, calls}
 use Rattle.geometry.specs.Events.{placeAnswer}
 use Rattle.base.proofs.Rows.{no-room, not-counted, is-row}
 use Rattle.geometry.proofs.Arms.{refused, place-refused, place-done}
+use Rattle.geometry.proofs.Refusals.{and-overlap}
 use borrow.Author.Needs.{needs}
 use Rattle.geometry.proofs.place.Statement.{statement}
 use Rattle.geometry.proofs.place.Tie as tie
@@ -12,21 +13,21 @@ refusal-requires c κs = search needs
 
 returns : tie.Need-returns
 unfolding placeAnswer
-returns c = refused _ _ _ _ _ _ _ _ (c .refusal .ensures) (search (absent, no-room, calls)) refl
+returns c = and-overlap _ _ _ _ _ _ _ (refused _ _ _ _ _ _ _ _ (c .refusal .ensures) (search (absent, no-room, calls)) refl)
 
 refusal-requires-2 : tie.Need-refusal-requires-2
 refusal-requires-2 c κs = search needs
 
 returns-2 : tie.Need-returns-2
 unfolding placeAnswer
-returns-2 c = refused _ _ _ _ _ _ _ _ (c .refusal2 .ensures) (search (absent, not-counted, calls)) refl
+returns-2 c = and-overlap _ _ _ _ _ _ _ (refused _ _ _ _ _ _ _ _ (c .refusal2 .ensures) (search (absent, not-counted, calls)) refl)
 
 refusal-requires-3 : tie.Need-refusal-requires-3
 refusal-requires-3 c κs = search needs
 
 returns-3 : tie.Need-returns-3
 unfolding placeAnswer
-returns-3 c = refused _ _ _ _ _ _ _ _ (c .refusal3 .ensures) (search (behind, is-row, calls)) refl
+returns-3 c = and-overlap _ _ _ _ _ _ _ (refused _ _ _ _ _ _ _ _ (c .refusal3 .ensures) (search (behind, is-row, calls)) refl)
 
 past-end-requires : tie.Need-past-end-requires
 past-end-requires c κs = search needs
@@ -36,7 +37,7 @@ refusal-requires-4 c κs = search needs
 
 returns-4 : tie.Need-returns-4
 unfolding placeAnswer
-returns-4 c = refused _ _ _ _ _ _ _ _ (c .refusal4 .ensures) (search (behind, is-row, calls)) refl
+returns-4 c = and-overlap _ _ _ _ _ _ _ (refused _ _ _ _ _ _ _ _ (c .refusal4 .ensures) (search (behind, is-row, calls)) refl)
 
 mul-next : tie.Need-mul-next
 mul-next c = search needs
@@ -51,10 +52,10 @@ refusal-requires-5 : tie.Need-refusal-requires-5
 refusal-requires-5 c κs = search needs
 
 returns-5 : tie.Need-returns-5
-returns-5 c = search (place-refused, needs)
+returns-5 c = and-overlap _ _ _ _ _ _ _ (search (place-refused, needs))
 
 returns-6 : tie.Need-returns-6
-returns-6 c = search (place-done, needs)
+returns-6 c = and-overlap _ _ _ _ _ _ _ (search (place-done, needs))
 
 pub place-spec : {M : Type 1} → statement M
 place-spec =

@@ -211,7 +211,7 @@ loop-again c =
     (⊎-elim (λ w. let q = next-says g (c .before .before .before .change-of .ensures) (w .1 .given .1) in stored-as (q .1) (stops-stored _ (g .sofar .kept) _ _ _ _ _ _ above (q .0) (w .4 .ensures) (w .5 .taken) (w .6 .ensures) (w .8 .ensures)) (w .9) (w .10) (w .11) (w .12) (w .13) (w .14))
     (⊎-elim (λ w. let q = next-says g (c .before .before .before .change-of .ensures) (w .1 .given .1) in stored-as (q .1) (pass-stored _ (g .sofar .kept) _ _ _ _ _ _ above (g .sofar .flag) (q .0) (w .4 .ensures) (w .5 .left) (w .6 .ensures)) (w .8) (w .9) (w .10) (w .11) (w .12) (w .13))
     (⊎-elim (λ w. stored-as (next-says g (c .before .before .before .change-of .ensures) (w .1 .given .1)) (cycle-stored _ (g .sofar .kept) _ _ (g .sofar .flag) (w .3 .ensures)) (w .4) (w .5) (w .6) (w .7) (w .8) (w .9))
-    (⊎-elim (λ w. stored-as (next-says g (c .before .before .before .change-of .ensures) (w .1 .given .1)) (spans-stored _ (g .sofar .kept) _ _ _ _ _ _ _ _ above (g .sofar .flag) (w .4 .ensures) (w .6 .ensures)) (w .7) (w .8) (w .9) (w .10) (w .11) (w .12))
+    (⊎-elim (λ w. stored-as (next-says g (c .before .before .before .change-of .ensures) (w .1 .given .1)) (spans-stored _ (g .sofar .kept) _ _ _ _ _ _ _ _ above (g .sofar .flag) (w .4 .ensures .0) (w .6 .ensures)) (w .7) (w .8) (w .9) (w .10) (w .11) (w .12))
     (⊎-elim (λ w. stored-as (next-says g (c .before .before .before .change-of .ensures) (w .1 .given .1)) (transfer-stored _ (g .sofar .kept) _ _ _ _ _ _ _ above (g .sofar .flag) (w .5 .ensures)) (w .6) (w .7) (w .8) (w .9) (w .10) (w .11))
     (λ w. stored-as refl (nothing-stored _ (g .sofar .kept) _ _ _ (next-says g (c .before .before .before .change-of .ensures) (w .1 .given .1)) _ _ (g .sofar .flag) (w .3 .ensures)) (w .4) (w .5) (w .6) (w .7) (w .8) (w .9))))))))
     (c .before .before .match2 .came) in

@@ -1,4 +1,4 @@
-use Rattle.token_writer.proofs.Arms.{code-operator}
+use Rattle.token_writer.proofs.Arms.{code-operator, back-reference, back-operator}
 use borrow.Author.Needs.{needs}
 use Rattle.token_writer.proofs.code.Statement.{statement}
 use Rattle.token_writer.proofs.code.Tie as tie
@@ -19,10 +19,10 @@ add-result : tie.Need-add-result
 add-result c = search needs
 
 returns : tie.Need-returns
-returns c = search needs
+returns c = search (back-reference, needs)
 
 returns-2 : tie.Need-returns-2
-returns-2 c = search code-operator
+returns-2 c = search (code-operator, back-operator)
 
 pub code-spec : {M : Type 1} → statement M
 code-spec =

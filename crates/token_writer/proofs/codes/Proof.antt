@@ -1,19 +1,17 @@
 use borrow.Author.Needs.{needs}
-use Rattle.base.proofs.Loops.{Filled, fill-begin, fill-again, fill-done}
-use Rattle.token_writer.specs.Write.{codeOf}
-use Rattle.expression.specs.declared.Element.{Element}
+use Rattle.token_writer.proofs.Passes.{Numbering, number-begin, number-again, number-done, number-back}
 use Prim.Native.Nat.{_-_}
 use Rattle.token_writer.proofs.codes.Statement.{statement}
 use Rattle.token_writer.proofs.codes.Tie as tie
 
 abbrev Inv-loop : tie.InvT-loop
-Inv-loop elements out₀ i₀ out i = Filled (λ (e : Element). codeOf (e .part)) 32 elements out₀ out i
+Inv-loop elements out₀ i₀ out i = Numbering elements out₀ out i
 
 abbrev μ-loop : tie.MeasureT-loop
 μ-loop elements out₀ i₀ out i = 32 - i
 
 loop-holds : tie.Need-loop-holds Inv-loop μ-loop
-loop-holds c = search (fill-begin, needs)
+loop-holds c = search (number-begin, needs)
 
 mul-e : tie.Need-mul-e Inv-loop μ-loop
 mul-e c = search needs
@@ -37,10 +35,10 @@ loop-less : tie.Need-loop-less Inv-loop μ-loop
 loop-less c = search needs
 
 loop-again : tie.Need-loop-again Inv-loop μ-loop
-loop-again c = search (fill-again, needs)
+loop-again c = search (number-again, needs)
 
 returns : tie.Need-returns Inv-loop μ-loop
-returns c = search (fill-done, needs)
+returns c = search (number-done, number-back, needs)
 
 pub codes-spec : {M : Type 1} → statement M
 codes-spec =

@@ -1,4 +1,5 @@
 use Rattle.token_writer.proofs.Arms.{fit-told, room-told, write-unfit, write-long, write-short, write-done}
+use Rattle.token_writer.proofs.Functions.{and-back}
 use borrow.Author.Needs.{needs}
 use Rattle.token_writer.proofs.write.Statement.{statement}
 use Rattle.token_writer.proofs.write.Tie as tie
@@ -7,16 +8,16 @@ fit-requires : tie.Need-fit-requires
 fit-requires c κs = search needs
 
 returns : tie.Need-returns
-returns c = search write-unfit
+returns c = and-back _ _ _ _ (search write-unfit)
 
 returns-2 : tie.Need-returns-2
-returns-2 c = search write-long
+returns-2 c = and-back _ _ _ _ (search write-long)
 
 needed-requires : tie.Need-needed-requires
 needed-requires c κs = search (fit-told, needs)
 
 returns-3 : tie.Need-returns-3
-returns-3 c = search write-short
+returns-3 c = and-back _ _ _ _ (search write-short)
 
 fill-requires : tie.Need-fill-requires
 fill-requires c κs = search (fit-told, room-told, needs)
@@ -25,7 +26,7 @@ same-length : tie.Need-same-length
 same-length c = search needs
 
 returns-4 : tie.Need-returns-4
-returns-4 c = search write-done
+returns-4 c = and-back _ _ _ _ (search write-done)
 
 pub write-spec : {M : Type 1} → statement M
 write-spec =

@@ -1,4 +1,4 @@
-use Rattle.token_writer.proofs.Arms.{taken-length, write-first, write-all}
+use Rattle.token_writer.proofs.Arms.{taken-length, write-first, write-all, back-first, back-all}
 use Rattle.base.proofs.Lists.{unmapped}
 use native.Mathlib.Omega.{arith}
 use borrow.Author.Needs.{needs}
@@ -21,7 +21,7 @@ same-length : tie.Need-same-length
 same-length c = search needs
 
 returns : tie.Need-returns
-returns c = search write-first
+returns c = search (write-first, back-first)
 
 slice-aggregate-write-2 : tie.Need-slice-aggregate-write-2
 slice-aggregate-write-2 c = search needs
@@ -33,7 +33,7 @@ same-length-2 : tie.Need-same-length-2
 same-length-2 c = search needs
 
 returns-2 : tie.Need-returns-2
-returns-2 c = search (write-all, unmapped, needs)
+returns-2 c = search (write-all, back-all, unmapped, needs)
 
 pub write-expression-spec : {M : Type 1} → statement M
 write-expression-spec =

@@ -1,5 +1,5 @@
 use Rattle.phases.specs.Phases.{moveOf}
-use Rattle.phases.proofs.Table.{rule, row-below, column-below}
+use Rattle.phases.proofs.Table.{rule, row-below, column-below, and-listed}
 use native.Mathlib.Omega.{arith}
 use borrow.Author.Needs.{needs}
 use Rattle.phases.proofs.Phase.moved.Statement.{statement}
@@ -30,7 +30,7 @@ returns : tie.Need-returns
 unfolding moveOf
 returns c =
     let a = c .before .before .before .args in
-    simp (c .before .column .ensures, c .before .before .number .ensures) (search rule)
+    and-listed (a .self) (a .cause) _ (simp (c .before .column .ensures, c .before .before .number .ensures) (search rule))
 
 pub moved-spec : {M : Type 1} → statement M
 moved-spec =

@@ -8,7 +8,7 @@ step-requires c κs = search needs
 
 returns : tie.Need-returns
 unfolding disableOf
-returns c = c .step .ensures
+returns c = c .step .ensures .0
 
 pub disable-spec : {M : Type 1} → statement M
 disable-spec = tie.close (tie.spec step-requires returns)

@@ -11,7 +11,7 @@ step-requires c κs = search needs
 
 returns : tie.Need-returns
 unfolding enableOf
-returns c = simp (c .step .ensures, c .before .enable-cause .ensures)
+returns c = simp (c .step .ensures .0, c .before .enable-cause .ensures)
 
 pub enable-spec : {M : Type 1} → statement M
 enable-spec = tie.close (tie.spec enable-cause-requires step-requires returns)

@@ -15,7 +15,7 @@ step-requires c κs = search needs
 
 returns-2 : tie.Need-returns-2
 unfolding powerCycleOf
-returns-2 c = c .step .ensures
+returns-2 c = c .step .ensures .0
 
 pub power-cycle-spec : {M : Type 1} → statement M
 power-cycle-spec = tie.close (tie.spec rests-requires returns step-requires returns-2)

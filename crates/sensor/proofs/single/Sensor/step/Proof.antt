@@ -1,4 +1,4 @@
-use Rattle.sensor.proofs.Arms.{stays, enters}
+use Rattle.sensor.proofs.Arms.{stays, enters, and-listed}
 use borrow.Author.Needs.{needs}
 use Rattle.sensor.proofs.single.Sensor.step.Statement.{statement}
 use Rattle.sensor.proofs.single.Sensor.step.Tie as tie
@@ -22,10 +22,10 @@ enter-requires : tie.Need-enter-requires
 enter-requires c κs = search needs
 
 returns : tie.Need-returns
-returns c = search stays
+returns c = and-listed _ _ _ (search stays)
 
 returns-2 : tie.Need-returns-2
-returns-2 c = search enters
+returns-2 c = and-listed _ _ _ (search enters)
 
 pub step-spec : {M : Type 1} → statement M
 step-spec =
