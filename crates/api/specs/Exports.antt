@@ -1,19 +1,22 @@
 -- What the exported functions return and leave: the number returned, the numbers behind each `&mut`, and the lent buffers, from what stood
 -- there before.
-use Prim.Native.Nat.{ℕ}
-use mathlib.Core.Bool.{cond, _&&_}
+use Prim.Native.Nat.{ℕ, _≤_}
+use mathlib.Core.Path.{_≡_}
+use mathlib.Core.Bool.{true, cond, _&&_}
 use mathlib.Core.List.{List}
 use lib.Dec.{eqb, leb}
 use lib.ListN.{length, getD}
+use Rattle.base.specs.Refusals.{applying}
 use Rattle.sensor_set.specs.declared.SensorColumns.{SensorColumns}
 use Rattle.token_reader.specs.Read.{elements, refusal}
 use Rattle.token_reader.specs.Read.{TokenOutcome}
 use Rattle.token_writer.specs.Write.{codesOf, elementsOf, bytesOf, writeAnswer, writtenAfter, outputAfter}
 use Rattle.band_columns.specs.declared.BandColumns.{BandColumns}
+use Rattle.drive.specs.declared.Drive.{Drive}
 use Rattle.drive.specs.declared.Kind.{Kind}
 use Rattle.drive.specs.declared.Kind.the-variants as K
 use Rattle.drive.specs.State.{mostBlocks, mostBands, mostSensors, headerFits, freshDrive}
-use Rattle.drive.specs.Events.{Event, answerOf, stopsOf, eventOf, runOf}
+use Rattle.drive.specs.Events.{Event, refusals, answerOf, stopsOf, eventOf, runOf}
 use Rattle.event_reader.specs.Fields.{kinds}
 use Rattle.script.specs.Whole.{Script, accepted, bad}
 use Rattle.run.specs.Outcome.{RunOutcome, outcome}
@@ -100,10 +103,21 @@ pub data EventTold : Type 0 where
   answered : (answer stops place : ℕ) → EventTold
 
 -- "The lowest number that applies is given", also where the script is bad and no drive is left: the number from 1 to 6 that the event gets
--- on the fresh drive of the greatest header, 0 if there is none. What is refused so on that drive is refused on every drive; 7, 8 and 9
--- speak of bands that a run has placed and locked.
+-- on the fresh drive of the greatest header, 0 if there is none. 7, 8 and 9 speak of bands that a run has placed and locked.
 unfoldable pub refusedAnyway : Event → ℕ
 refusedAnyway e = let n = answerOf (freshDrive mostBlocks mostBands mostSensors) e in cond (leb n 6) n 0
+
+abbrev pub InRange : Drive → Type 0
+InRange d = headerFits (d .capacity) (d .«band_count») (d .«sensor_count») ≡ true
+
+-- This is the lowest number from 1 to 6 that applies whatever the drive (theorem `lowest-anyway` in proofs/Anyway).
+pub record LowestAnyway (e : Event) : Type 0 where
+  -- it applies on every drive
+  pub applies : 1 ≤ refusedAnyway e → (d : Drive) → InRange d → applying (refusedAnyway e) (refusals d e) ≡ true
+  -- so the event is refused on every drive, with this number or a lower one
+  pub refused : 1 ≤ refusedAnyway e → (d : Drive) → InRange d → (1 ≤ answerOf d e) × (answerOf d e ≤ refusedAnyway e)
+  -- and where a number from 1 to 6 applies on every drive, this one is no greater, and not 0
+  pub lowest : (n : ℕ) → n ≤ 6 → ((d : Drive) → InRange d → applying n (refusals d e) ≡ true) → (1 ≤ refusedAnyway e) × (refusedAnyway e ≤ n)
 
 -- that number; or, if there is none, the script's answer and its place
 abbrev pub refusedEvent : (answer at : ℕ) → Event → (stops place : ℕ) → EventTold
