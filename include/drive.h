@@ -6,7 +6,8 @@
  * library. "Document 01" is the scope paper.
  *
  * What a call asks of its caller: a buffer is a pointer and the number of its elements; no pointer is NULL, also where that number is 0; and
- * no memory that a call writes overlaps other memory that it is given. The functions keep nothing between two calls.
+ * no memory that a call writes overlaps other memory that it is given. The functions keep nothing between two calls, and take their memory
+ * from the stack, less than a megabyte of it (this is measured and not proved).
  *
  * Every function returns an answer of document 01's table. Where several apply, the lowest number is given, but of 3 and 4 the one that is
  * met first from the left. A refusal, that is any answer but 0, leaves every buffer and every number behind a pointer as it was, with two

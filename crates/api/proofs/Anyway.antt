@@ -54,7 +54,9 @@ no-row : (count most i : ℕ) → count ≤ most → not (isRow most i) ≡ true
 no-row count most i h = contra (isRow count i) (isRow most i) up
   where
     up : isRow count i ≡ true → isRow most i ≡ true
-    up e = sym (and-yes (ltb i most) (ltb i 16) true (lt-ltb i most (omega (arith, h, ltb-true i count (and-left (ltb i count) (ltb i 16) e)))) (sym (and-right (ltb i count) (ltb i 16) e)))
+    up e =
+        let below : i < most = omega (arith, h, ltb-true i count (and-left (ltb i count) (ltb i 16) e)) in
+        sym (and-yes (ltb i most) (ltb i 16) true (lt-ltb i most below) (sym (and-right (ltb i count) (ltb i 16) e)))
 
     contra : (a b : Bool) → (a ≡ true → b ≡ true) → not b ≡ true → not a ≡ true
     contra true true f e = absurd (false≢true e)
@@ -74,17 +76,22 @@ abbrev greatest : Drive
 greatest = freshDrive mostBlocks mostBands mostSensors
 
 module _ (d : Drive) (fits : InRange d) where
-  few-blocks : d .capacity ≤ mostBlocks
+  -- the tests of the header after that of capacity 0, and those after that of no bands
+  tests : (leb (d .capacity) mostBlocks && (leb 1 (d .«band_count») && (leb (d .«band_count») mostBands && leb (d .«sensor_count») mostSensors))) ≡ true
   unfolding headerFits
-  few-blocks = leb-true (d .capacity) mostBlocks (and-left _ _ (and-right (leb 1 (d .capacity)) _ fits))
+  tests = and-right (leb 1 (d .capacity)) _ fits
+
+  counts : (leb (d .«band_count») mostBands && leb (d .«sensor_count») mostSensors) ≡ true
+  counts = and-right (leb 1 (d .«band_count»)) _ (and-right (leb (d .capacity) mostBlocks) _ tests)
+
+  few-blocks : d .capacity ≤ mostBlocks
+  few-blocks = leb-true (d .capacity) mostBlocks (and-left (leb (d .capacity) mostBlocks) _ tests)
 
   few-bands : d .«band_count» ≤ mostBands
-  unfolding headerFits
-  few-bands = leb-true (d .«band_count») mostBands (and-left _ _ (and-right (leb 1 (d .«band_count»)) _ (and-right (leb (d .capacity) mostBlocks) _ (and-right (leb 1 (d .capacity)) _ fits))))
+  few-bands = leb-true (d .«band_count») mostBands (and-left (leb (d .«band_count») mostBands) _ counts)
 
   few-sensors : d .«sensor_count» ≤ mostSensors
-  unfolding headerFits
-  few-sensors = leb-true (d .«sensor_count») mostSensors (and-right (leb (d .«band_count») mostBands) _ (and-right (leb 1 (d .«band_count»)) _ (and-right (leb (d .capacity) mostBlocks) _ (and-right (leb 1 (d .capacity)) _ fits))))
+  few-sensors = leb-true (d .«sensor_count») mostSensors (and-right (leb (d .«band_count») mostBands) _ counts)
 
   passes : (x : Shape) → Passes (refusalsBy greatest x) (refusalsBy d x)
   unfolding freshDrive

@@ -96,8 +96,10 @@ module _ (former : ℕ) (codes lent : List ℕ) where
 
 -- ---- a run
 
-module _ (r : Ran) (answers stops : List ℕ) (o : RunOutcome) (place count number : ℕ) (e : number ≡ numberOf (r .answer)) (h : outcomeIn r answers stops ≡ o) where
-  ran-by : (a b : Bool) → eqb number 10 ≡ a → eqb number 0 ≡ b → ranTo number (cond a (r .place) place) (cond b (r .count) count) answers stops ≡ runTold place count o
+module _ (r : Ran) (answers stops : List ℕ) (o : RunOutcome) (place count number : ℕ) (e : number ≡ numberOf (r .answer))
+    (h : outcomeIn r answers stops ≡ o) where
+  ran-by : (a b : Bool) → eqb number 10 ≡ a → eqb number 0 ≡ b
+      → ranTo number (cond a (r .place) place) (cond b (r .count) count) answers stops ≡ runTold place count o
   ran-by a b p q =
       ap (λ (x : Bool). ranTo number (cond x (r .place) place) (cond b (r .count) count) answers stops) (sym p)
       ∙ ap (λ (x : Bool). ranTo number (cond (eqb number 10) (r .place) place) (cond x (r .count) count) answers stops) (sym q)
@@ -159,7 +161,8 @@ module _ (r : Tokens) (codes : List ℕ) (c : codes ≡ codesOf (r .expression .
   pub read-told : (o : TokenOutcome) (former : ℕ) (lent : List ℕ) (t : Told) (number : ℕ) → Tells o r → number ≡ numberOf (r .answer) → number ≡ 0
       → t ≡ leaving former (listOf (take (r .expression .count) codes) lent) → t ≡ leaving former (readInto o lent)
   read-told o former lent t number h e z w =
-      w ∙ ap (leaving former) (go o (sym z ∙ e ∙ h .answer) (c ∙ ap (λ (x : Expression). codesOf (x .elements)) (h .expression)) (ap (λ (x : Expression). x .count) (h .expression)))
+      let k = ap (λ (x : Expression). codesOf (x .elements)) (h .expression) in
+      w ∙ ap (leaving former) (go o (sym z ∙ e ∙ h .answer) (c ∙ k) (ap (λ (x : Expression). x .count) (h .expression)))
     where
       go : (o : TokenOutcome) → 0 ≡ answerIn o → codes ≡ codesOf (expressionIn o .elements) → r .expression .count ≡ expressionIn o .count
           → listOf (take (r .expression .count) codes) lent ≡ readInto o lent
