@@ -1,1 +1,2 @@
+pub mod Anyway
 pub mod Telling

@@ -5,9 +5,10 @@ use Prim.Native.Nat.{ℕ, _-_, _<_, _≤_}
 use native.Mathlib.Omega.{arith}
 use mathlib.Core.Bool.{Bool, true, false, cond}
 use mathlib.Core.List.{List, [], _++_}
+use lib.Dec.{eqb, leb}
 use lib.ListN.{length, getD, take, replicate, length-append, length-map, length-replicate, List·getD-eq-default}
 use lib.Seq.{take-append-seam}
-use borrow.Author.Tests.{le-leb, lt-leb, ne-eqb}
+use borrow.Author.Tests.{le-leb, lt-leb, eq-eqb, ne-eqb}
 use Rattle.answer.specs.Numbers.{numberOf}
 use Rattle.sensor_set.specs.declared.SensorColumns.{SensorColumns}
 use Rattle.band_columns.specs.declared.BandColumns.{BandColumns}
@@ -25,15 +26,18 @@ use Rattle.drive.specs.declared.Drive.{Drive}
 use Rattle.drive.specs.declared.Kind.{Kind}
 use Rattle.drive.specs.declared.Kind.the-variants as K
 use Rattle.drive.specs.declared.Reply.{Reply}
-use Rattle.drive.specs.State.{headerFits, freshDrive, Freshens}
-use Rattle.drive.specs.Events.{Event, answerOf, stopsOf, eventOf, runOf, Replies}
+use Rattle.drive.specs.State.{mostBlocks, mostBands, mostSensors, headerFits, freshDrive, Freshens}
+use Rattle.drive.specs.Events.{Event, answerOf, stopsOf, eventOf, runOf, over, Replies}
 use Rattle.script.specs.Whole.{mostScriptBytes, mostEvents, Script, accepted, bad, readScript}
 use Rattle.run.specs.Outcome.{RunOutcome, outcome, outcomeIn, runScript}
 use Rattle.run.specs.declared.Ran.{Ran}
 use Rattle.report.specs.declared.Listed.{Listed}
 use Rattle.report.specs.Listing.{Told, told, toldIn, listOf}
+use Rattle.report.proofs.Handing.{too-short, handed}
 use Rattle.report.proofs.Whole.{whole}
 use Rattle.api.specs.Exports.{
+  written,
+  leaving,
   ranTo,
   runTold,
   readInto,
@@ -46,21 +50,70 @@ use Rattle.api.specs.Exports.{
   kindOf,
   EventTold,
   answered,
+  refusedAnyway,
+  refusedEvent,
   eventOn,
+  lastKind,
   eventTold,
 }
 
-pub list-told : (r : Listed) (after : List ℕ) (t : Told) (number : ℕ) → number ≡ numberOf (r .answer) → toldIn r after ≡ t
-    → told number (r .length) after ≡ t
-list-told r after t number e h = ap (λ (n : ℕ). told n (r .length) after) e ∙ h
+-- ---- a number beside a lent output
 
-pub run-told : (r : Ran) (answers stops : List ℕ) (o : RunOutcome) (number : ℕ) → number ≡ numberOf (r .answer) → outcomeIn r answers stops ≡ o
-    → ranTo number (r .place) (r .count) answers stops ≡ runTold o
-run-told r answers stops o number e h = ap (λ (n : ℕ). ranTo n (r .place) (r .count) answers stops) e ∙ ap runTold h
+module _ (former number length : ℕ) (after : List ℕ) (t : Told) (h : told number length after ≡ t) where
+  kept : number ≢ 0 → told number former after ≡ leaving former t
+  kept q = ap (λ (b : Bool). told number (cond b length former) after) (sym (ne-eqb number 0 q)) ∙ ap (leaving former) h
 
-pub write-told : (codes lent after : List ℕ) (r : Written) (number : ℕ) → number ≡ numberOf (r .answer) → Writes codes lent r after
-    → told number (r .count) after ≡ writeInto codes lent
-write-told codes lent after r number e w = rw (e, w .answer, w .count, w .output)
+  noted : number ≡ 0 → told number length after ≡ leaving former t
+  noted q = ap (λ (b : Bool). told number (cond b length former) after) (sym (eq-eqb number 0 q)) ∙ ap (leaving former) h
+
+module _ (former : ℕ) (r : Listed) (after : List ℕ) (t : Told) (number : ℕ) (e : number ≡ numberOf (r .answer)) (h : toldIn r after ≡ t) where
+  listed : told number (r .length) after ≡ t
+  listed = ap (λ (n : ℕ). told n (r .length) after) e ∙ h
+
+  pub list-refused : number ≢ 0 → told number former after ≡ leaving former t
+  list-refused = kept former number (r .length) after t listed
+
+  pub list-told : number ≡ 0 → told number (r .length) after ≡ leaving former t
+  list-told = noted former number (r .length) after t listed
+
+module _ (former : ℕ) (codes lent after : List ℕ) (r : Written) (number : ℕ) (e : number ≡ numberOf (r .answer)) (w : Writes codes lent r after) where
+  wrote : told number (r .count) after ≡ writeInto codes lent
+  wrote = rw (e, w .answer, w .count, w .output)
+
+  pub write-refused : number ≢ 0 → told number former after ≡ leaving former (writeInto codes lent)
+  write-refused = kept former number (r .count) after (writeInto codes lent) wrote
+
+  pub write-told : number ≡ 0 → told number (r .count) after ≡ leaving former (writeInto codes lent)
+  write-told = noted former number (r .count) after (writeInto codes lent) wrote
+
+-- numbers that are handed over, or do not fit
+module _ (former : ℕ) (codes lent : List ℕ) where
+  pub hand-refused : length lent < length codes → told 11 former lent ≡ leaving former (listOf codes lent)
+  hand-refused h = ap (leaving former) (too-short codes lent h)
+
+  pub hand-told : (after : List ℕ) → length codes ≤ length lent → after ≡ over codes lent → told 0 (length codes) after ≡ leaving former (listOf codes lent)
+  hand-told after h e = ap (leaving former) (handed codes lent after h e)
+
+-- ---- a run
+
+module _ (r : Ran) (answers stops : List ℕ) (o : RunOutcome) (place count number : ℕ) (e : number ≡ numberOf (r .answer))
+    (h : outcomeIn r answers stops ≡ o) where
+  ran-by : (a b : Bool) → eqb number 10 ≡ a → eqb number 0 ≡ b
+      → ranTo number (cond a (r .place) place) (cond b (r .count) count) answers stops ≡ runTold place count o
+  ran-by a b p q =
+      ap (λ (x : Bool). ranTo number (cond x (r .place) place) (cond b (r .count) count) answers stops) (sym p)
+      ∙ ap (λ (x : Bool). ranTo number (cond (eqb number 10) (r .place) place) (cond x (r .count) count) answers stops) (sym q)
+      ∙ ap (λ (n : ℕ). ranTo n (cond (eqb n 10) (r .place) place) (cond (eqb n 0) (r .count) count) answers stops) e
+      ∙ ap (runTold place count) h
+
+  pub run-bad : number ≡ 10 → ranTo number (r .place) count answers stops ≡ runTold place count o
+  run-bad q = ran-by true false (eq-eqb number 10 q) (ne-eqb number 0 (λ z. absurd (omega (arith, q, z))))
+
+  pub run-refused : number ≢ 10 → number ≢ 0 → ranTo number place count answers stops ≡ runTold place count o
+  run-refused q z = ran-by false false (ne-eqb number 10 q) (ne-eqb number 0 z)
+
+  pub run-told : number ≡ 0 → ranTo number place (r .count) answers stops ≡ runTold place count o
+  run-told z = ran-by false true (ne-eqb number 10 (λ q. absurd (omega (arith, q, z)))) (eq-eqb number 0 z)
 
 -- ---- a fresh drive
 
@@ -83,8 +136,8 @@ module _ (capacity bands sensors : ℕ) where
 -- ---- tokens read
 
 module _ (o : TokenOutcome) (r : Tokens) (h : Tells o r) (number : ℕ) (e : number ≡ numberOf (r .answer)) (lent : List ℕ) where
-  pub read-refused : number ≢ 0 → told number 0 lent ≡ readInto o lent
-  read-refused q = go o (e ∙ h .answer)
+  pub read-refused : (former : ℕ) → number ≢ 0 → told number former lent ≡ leaving former (readInto o lent)
+  read-refused former q = kept former number 0 lent (readInto o lent) (go o (e ∙ h .answer)) q
     where
       go : (o : TokenOutcome) → number ≡ answerIn o → told number 0 lent ≡ readInto o lent
       go (elements es) a = absurd (q a)
@@ -105,20 +158,21 @@ module _ (r : Tokens) (codes : List ℕ) (c : codes ≡ codesOf (r .expression .
           omega (arith, a, l, length-append es (replicate (32 - length es) blank), length-replicate (32 - length es) blank)
       go (refusal n) k = omega arith
 
-  pub read-told : (o : TokenOutcome) (lent after : List ℕ) (number count answer : ℕ) → Tells o r → number ≡ numberOf (r .answer) → number ≡ 0
-      → told answer count after ≡ listOf (take (r .expression .count) codes) lent → told answer count after ≡ readInto o lent
-  read-told o lent after number count answer h e z w =
-      go o (sym z ∙ e ∙ h .answer) (c ∙ ap (λ (x : Expression). codesOf (x .elements)) (h .expression)) (rw (h .expression) at w)
+  pub read-told : (o : TokenOutcome) (former : ℕ) (lent : List ℕ) (t : Told) (number : ℕ) → Tells o r → number ≡ numberOf (r .answer) → number ≡ 0
+      → t ≡ leaving former (listOf (take (r .expression .count) codes) lent) → t ≡ leaving former (readInto o lent)
+  read-told o former lent t number h e z w =
+      let k = ap (λ (x : Expression). codesOf (x .elements)) (h .expression) in
+      w ∙ ap (leaving former) (go o (sym z ∙ e ∙ h .answer) (c ∙ k) (ap (λ (x : Expression). x .count) (h .expression)))
     where
-      go : (o : TokenOutcome) → 0 ≡ answerIn o → codes ≡ codesOf (expressionIn o .elements)
-          → told answer count after ≡ listOf (take (expressionIn o .count) codes) lent → told answer count after ≡ readInto o lent
-      go (elements es) a k w =
+      go : (o : TokenOutcome) → 0 ≡ answerIn o → codes ≡ codesOf (expressionIn o .elements) → r .expression .count ≡ expressionIn o .count
+          → listOf (take (r .expression .count) codes) lent ≡ readInto o lent
+      go (elements es) a k n =
           let p : take (length es) codes ≡ codesOf es =
           rw k (codes-taken (cellsOf es) (length es) ∙ ap codesOf (take-append-seam es (replicate (32 - length es) blank))) in
-          w ∙ ap (λ (l : List ℕ). listOf l lent) p
-      go (refusal n) a k w =
+          ap (λ (i : ℕ). listOf (take i codes) lent) n ∙ ap (λ (l : List ℕ). listOf l lent) p
+      go (refusal m) a k n =
           let q : listOf [] lent ≡ told 0 0 lent = rw (le-leb 0 (length lent) (omega arith)) in
-          w ∙ q ∙ ap (λ (k : ℕ). told k 0 lent) a
+          ap (λ (i : ℕ). listOf (take i codes) lent) n ∙ q ∙ ap (λ (k : ℕ). told k 0 lent) a
 
 -- ---- one event
 
@@ -189,50 +243,92 @@ module _ (kind : ℕ) (fields : List ℕ) (a b c : ℕ) (p : a ≡ getD fields 0
   transfer-of h i j k l m =
       rw (ne-eqb kind 1 h, ne-eqb kind 2 i, ne-eqb kind 3 j, ne-eqb kind 4 k, ne-eqb kind 5 l, ne-eqb kind 6 m, p, q, r)
 
-pub no-kind : (script : Script) (kind : ℕ) (fields tokens : List ℕ) → kind < 1 → answered 2 0 ≡ eventTold script kind fields tokens
-no-kind script kind fields tokens h = rw (lt-leb 1 kind h)
+module _ (script : Script) (kind : ℕ) (fields tokens : List ℕ) (stops place : ℕ) where
+  pub no-kind : kind < 1 → answered 2 stops place ≡ eventTold script kind fields tokens stops place
+  no-kind h = rw (lt-leb 1 kind h)
 
-pub great-kind : (script : Script) (kind : ℕ) (fields tokens : List ℕ) → 1 ≤ kind → 7 < kind → answered 2 0 ≡ eventTold script kind fields tokens
-great-kind script kind fields tokens k h = rw (le-leb 1 kind k, lt-leb kind 7 h)
+  pub great-kind : (last : ℕ) → lastKind ≤ last → 1 ≤ kind → last < kind → answered 2 stops place ≡ eventTold script kind fields tokens stops place
+  great-kind last l k h = rw (le-leb 1 kind k, lt-leb kind lastKind (omega (arith, l, h)))
 
-pub some-kind : (script : Script) (kind : ℕ) (fields tokens : List ℕ) (event : Kind) (t : EventTold) → 1 ≤ kind → kind ≤ 7
-    → event ≡ kindOf kind fields → t ≡ eventOn script (eventOf event tokens) → t ≡ eventTold script kind fields tokens
-some-kind script kind fields tokens event t k h e w = rw (le-leb 1 kind k, le-leb kind 7 h) (w ∙ ap (λ (x : Kind). eventOn script (eventOf x tokens)) e)
+  pub some-kind : (event : Kind) (t : EventTold) → 1 ≤ kind → kind ≤ lastKind → event ≡ kindOf kind fields
+      → t ≡ eventOn script (eventOf event tokens) stops place → t ≡ eventTold script kind fields tokens stops place
+  some-kind event t k h e w =
+      rw (le-leb 1 kind k, le-leb kind lastKind h) (w ∙ ap (λ (x : Kind). eventOn script (eventOf x tokens) stops place) e)
 
--- what is left of a run: its answer and its drive
-abbrev answerAndDrive : RunOutcome → ℕ × Drive
-answerAndDrive (outcome answer place count drive answers stops) = (answer, drive)
+-- the number that an event gets whatever the script is: its answer on the greatest drive, where that is at most 6
+module _ (e : Event) (made : Fresh) (reply : Reply) (number : ℕ) (f : Freshens mostBlocks mostBands mostSensors made) (h : Replies (made .drive) e reply)
+    (k : number ≡ numberOf (reply .answer)) where
+  greatest : made .drive ≡ freshDrive mostBlocks mostBands mostSensors
+  unfolding headerFits
+  greatest = f .drive
 
-abbrev leftBy : Script → ℕ × Drive
-leftBy (accepted capacity bands sensors es) = (0, runOf (freshDrive capacity bands sensors) es)
-leftBy (bad place) = (10, freshDrive 1 1 0)
+  anyway-by : (b : Bool) → leb number 6 ≡ b → cond b number 0 ≡ refusedAnyway e
+  unfolding refusedAnyway
+  anyway-by b q =
+      ap (λ (x : Bool). cond x number 0) (sym q) ∙ ap (λ (n : ℕ). cond (leb n 6) n 0) (k ∙ h .answer ∙ ap (λ (d : Drive). answerOf d e) greatest)
+
+  pub not-anyway : (last : ℕ) → 6 ≤ last → last < number → 0 ≡ refusedAnyway e
+  not-anyway last l g = anyway-by false (lt-leb number 6 (omega (arith, l, g)))
+
+  pub anyway : number ≤ 6 → number ≡ refusedAnyway e
+  anyway g = anyway-by true (le-leb number 6 g)
+
+-- an event on a script that is refused
+module _ (e : Event) (answer at own place : ℕ) (h : own ≡ refusedAnyway e) where
+  unrun-by : (b : Bool) → eqb own 0 ≡ b → (stops : ℕ) → cond b (answered answer stops at) (answered own stops place) ≡ refusedEvent answer at e stops place
+  unrun-by b q stops =
+      ap (λ (x : Bool). cond x (answered answer stops at) (answered own stops place)) (sym q)
+      ∙ ap (λ (n : ℕ). cond (eqb n 0) (answered answer stops at) (answered n stops place)) h
+
+  pub unrun-refused : own ≢ 0 → (stops : ℕ) → answered own stops place ≡ refusedEvent answer at e stops place
+  unrun-refused q = unrun-by false (ne-eqb own 0 q)
+
+  pub unrun-placed : own ≡ 0 → (stops : ℕ) → answered answer stops at ≡ refusedEvent answer at e stops place
+  unrun-placed q = unrun-by true (eq-eqb own 0 q)
+
+-- what is left of a run: its answer, its place and its drive
+abbrev leftIn : RunOutcome → ℕ × ℕ × Drive
+leftIn (outcome answer place count drive answers stops) = (answer, place, drive)
+
+abbrev leftBy : Script → ℕ × ℕ × Drive
+leftBy (accepted capacity bands sensors es) = (0, 0, runOf (freshDrive capacity bands sensors) es)
+leftBy (bad place) = (10, place, freshDrive 1 1 0)
 
 module _ (s answers stops : List ℕ) (long : mostEvents ≤ length answers) (wide : mostEvents ≤ length stops) where
-  run-left : answerAndDrive (runScript (readScript s) mostScriptBytes answers stops) ≡ leftBy (readScript s)
+  run-left : leftIn (runScript (readScript s) mostScriptBytes answers stops) ≡ leftBy (readScript s)
   run-left = go (readScript s) refl
     where
-      go : (o : Script) → readScript s ≡ o → answerAndDrive (runScript o mostScriptBytes answers stops) ≡ leftBy o
-      go (accepted capacity bands sensors es) q = ap answerAndDrive (whole s answers stops long wide capacity bands sensors es q)
+      go : (o : Script) → readScript s ≡ o → leftIn (runScript o mostScriptBytes answers stops) ≡ leftBy o
+      go (accepted capacity bands sensors es) q = ap leftIn (whole s answers stops long wide capacity bands sensors es q)
       go (bad place) q = refl
 
   module _ (r : Ran) (answers' stops' : List ℕ) (w : outcomeIn r answers' stops' ≡ runScript (readScript s) mostScriptBytes answers stops)
-      (number : ℕ) (e : number ≡ numberOf (r .answer)) where
-    left : (numberOf (r .answer), r .drive) ≡ leftBy (readScript s)
-    left = ap answerAndDrive w ∙ run-left
+      (number : ℕ) (e : number ≡ numberOf (r .answer)) (event : Event) (was place : ℕ) where
+    left : (numberOf (r .answer), r .place, r .drive) ≡ leftBy (readScript s)
+    left = ap leftIn w ∙ run-left
 
-    pub event-unrun : (event : Event) → number ≢ 0 → answered number 0 ≡ eventOn (readScript s) event
-    event-unrun event z = go (readScript s) (e ∙ ap (λ (p : ℕ × Drive). p .0) left)
+    pub event-unrun : (answer place' : ℕ) → number ≢ 0 → ((k : ℕ) → answered answer k place' ≡ refusedEvent number (r .place) event k place)
+        → answered answer was place' ≡ eventOn (readScript s) event was place
+    event-unrun answer place' z h = h was ∙ go (readScript s) (e ∙ ap (λ (p : ℕ × ℕ × Drive). p .0) left) (ap (λ (p : ℕ × ℕ × Drive). p .1) left)
       where
-        go : (o : Script) → number ≡ leftBy o .0 → answered number 0 ≡ eventOn o event
-        go (accepted capacity bands sensors es) q = absurd (z q)
-        go (bad place) q = ap (λ (n : ℕ). answered n 0) q
+        go : (o : Script) → number ≡ leftBy o .0 → r .place ≡ leftBy o .1 → refusedEvent number (r .place) event was place ≡ eventOn o event was place
+        go (accepted capacity bands sensors es) q p = absurd (z q)
+        go (bad at) q p = rw (q, p)
 
-    pub event-run : (event : Event) (reply : Reply) (answer : ℕ) → number ≡ 0 → Replies (r .drive) event reply → answer ≡ numberOf (reply .answer)
-        → answered answer (reply .stops) ≡ eventOn (readScript s) event
-    event-run event reply answer z h k =
-        let a : answered answer (reply .stops) ≡ answered (answerOf (r .drive) event) (stopsOf (r .drive) event) = rw (k, h .answer, h .stops) in
-        a ∙ go (readScript s) (sym z ∙ e ∙ ap (λ (p : ℕ × Drive). p .0) left) (ap (λ (p : ℕ × Drive). p .1) left)
-      where
-        go : (o : Script) → 0 ≡ leftBy o .0 → r .drive ≡ leftBy o .1 → answered (answerOf (r .drive) event) (stopsOf (r .drive) event) ≡ eventOn o event
-        go (accepted capacity bands sensors es) q d = ap (λ (x : Drive). answered (answerOf x event) (stopsOf x event)) d
-        go (bad place) q d = absurd (omega (arith, q))
+    module _ (reply : Reply) (answer : ℕ) (z : number ≡ 0) (h : Replies (r .drive) event reply) (k : answer ≡ numberOf (reply .answer)) where
+      ran-event : answered answer (written answer (reply .stops) was) place ≡ eventOn (readScript s) event was place
+      ran-event =
+          ap (λ (n : ℕ). answered n (written n (reply .stops) was) place) (k ∙ h .answer)
+          ∙ ap (λ (n : ℕ). answered (answerOf (r .drive) event) (written (answerOf (r .drive) event) n was) place) (h .stops)
+          ∙ go (readScript s) (sym z ∙ e ∙ ap (λ (p : ℕ × ℕ × Drive). p .0) left) (ap (λ (p : ℕ × ℕ × Drive). p .2) left)
+        where
+          go : (o : Script) → 0 ≡ leftBy o .0 → r .drive ≡ leftBy o .2
+              → answered (answerOf (r .drive) event) (written (answerOf (r .drive) event) (stopsOf (r .drive) event) was) place ≡ eventOn o event was place
+          go (accepted capacity bands sensors es) q d = ap (λ (x : Drive). answered (answerOf x event) (written (answerOf x event) (stopsOf x event) was) place) d
+          go (bad at) q d = absurd (omega (arith, q))
+
+      pub event-refused : answer ≢ 0 → answered answer was place ≡ eventOn (readScript s) event was place
+      event-refused q = ap (λ (b : Bool). answered answer (cond b (reply .stops) was) place) (sym (ne-eqb answer 0 q)) ∙ ran-event
+
+      pub event-run : answer ≡ 0 → answered answer (reply .stops) place ≡ eventOn (readScript s) event was place
+      event-run q = ap (λ (b : Bool). answered answer (cond b (reply .stops) was) place) (sym (eq-eqb answer 0 q)) ∙ ran-event

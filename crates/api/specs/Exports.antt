@@ -1,35 +1,51 @@
--- What the exported functions return and write: the number returned, the numbers written through `&mut`, and the lent buffers.
-use Prim.Native.Nat.{ℕ}
-use mathlib.Core.Bool.{cond, _&&_}
+-- What the exported functions return and leave: the number returned, the numbers behind each `&mut`, and the lent buffers, from what stood
+-- there before.
+use Prim.Native.Nat.{ℕ, _≤_}
+use mathlib.Core.Path.{_≡_}
+use mathlib.Core.Bool.{true, cond, _&&_}
 use mathlib.Core.List.{List}
 use lib.Dec.{eqb, leb}
 use lib.ListN.{length, getD}
+use Rattle.base.specs.Refusals.{applying}
 use Rattle.sensor_set.specs.declared.SensorColumns.{SensorColumns}
 use Rattle.token_reader.specs.Format.{bytesOf}
 use Rattle.token_reader.specs.Read.{TokenOutcome, elements, refusal}
 use Rattle.token_writer.specs.Write.{codesOf, elementsOf, writeAnswer, writtenAfter, outputAfter}
 use Rattle.band_columns.specs.declared.BandColumns.{BandColumns}
+use Rattle.drive.specs.declared.Drive.{Drive}
 use Rattle.drive.specs.declared.Kind.{Kind}
 use Rattle.drive.specs.declared.Kind.the-variants as K
-use Rattle.drive.specs.State.{headerFits, freshDrive}
-use Rattle.drive.specs.Events.{Event, answerOf, stopsOf, eventOf, runOf}
+use Rattle.drive.specs.State.{mostBlocks, mostBands, mostSensors, headerFits, freshDrive}
+use Rattle.drive.specs.Events.{Event, refusals, answerOf, stopsOf, eventOf, runOf}
+use Rattle.event_reader.specs.Fields.{kinds}
 use Rattle.script.specs.Whole.{Script, accepted, bad}
 use Rattle.run.specs.Outcome.{RunOutcome, outcome}
 use Rattle.report.specs.Listing.{Told, told, listOf}
+
+-- "Any refusal leaves the drive and all lent bytes untouched", and a number behind a `&mut` too: only answer 0 writes it
+abbrev pub written : (answer new former : ℕ) → ℕ
+written answer new former = cond (eqb answer 0) new former
+
+-- what is told of a lent output, with the number that stood beside it before
+abbrev pub leaving : (former : ℕ) → Told → Told
+leaving former (told answer length output) = told answer (written answer length former) output
 
 -- a run: answer, place, number of events and the two buffers; its drive is not handed over
 pub data RunTold : Type 0 where
   ranTo : (answer place count : ℕ) (answers stops : List ℕ) → RunTold
 
-abbrev pub runTold : RunOutcome → RunTold
-runTold (outcome answer place count drive answers stops) = ranTo answer place count answers stops
+-- with the place and the number of events that stood there before: "Answer 10 carries a place", and no other answer writes one
+abbrev pub runTold : (place count : ℕ) → RunOutcome → RunTold
+runTold place count (outcome answer at ran drive answers stops) =
+    ranTo answer (cond (eqb answer 10) at place) (written answer ran count) answers stops
 
--- tokens read: the elements from the start of the output, 11 where they do not fit ("short buffer"); or 2, 3 or 4, and all as it was
+-- tokens read: the elements from the start of the output, 11 where they do not fit ("short buffer"); or 2, 3 or 4, and the output as it was
 abbrev pub readInto : TokenOutcome → List ℕ → Told
 readInto (elements es) lent = listOf (codesOf es) lent
 readInto (refusal answer) lent = told answer 0 lent
 
--- tokens written: "It fills exactly the bytes needed from the start of the output"; or 2, 4 or 11, and all as it was
+-- tokens written: "It fills exactly the bytes needed from the start of the output"; or 2, 4 or 11, and the output as
+-- it was
 abbrev pub writeInto : List ℕ → List ℕ → Told
 writeInto codes lent =
     let answer = writeAnswer codes (length lent) in
@@ -82,17 +98,43 @@ kindOf kind fields =
     (cond (eqb kind 6) (K.Geometry (getD fields 0 0) (getD fields 1 0) (getD fields 2 0))
     (K.Transfer (getD fields 0 0) (getD fields 1 0) (getD fields 2 0)))))))
 
--- answer and stops
+-- answer, stops and place
 pub data EventTold : Type 0 where
-  answered : (answer stops : ℕ) → EventTold
+  answered : (answer stops place : ℕ) → EventTold
 
--- the event after all events of the script, or 10 ("bad script")
-abbrev pub eventOn : Script → Event → EventTold
-eventOn (accepted capacity bands sensors es) e =
-    let left = runOf (freshDrive capacity bands sensors) es in answered (answerOf left e) (stopsOf left e)
-eventOn (bad place) e = answered 10 0
+-- "The lowest number that applies is given", also where the script is bad and no drive is left: the number from 1 to 6 that the event gets
+-- on the fresh drive of the greatest header, 0 if there is none. 7, 8 and 9 speak of bands that a run has placed and locked.
+unfoldable pub refusedAnyway : Event → ℕ
+refusedAnyway e = let n = answerOf (freshDrive mostBlocks mostBands mostSensors) e in cond (leb n 6) n 0
 
--- "The lowest number that applies is given": 2 where there is no such kind
-abbrev pub eventTold : Script → ℕ → List ℕ → List ℕ → EventTold
-eventTold script kind fields tokens =
-    cond (leb 1 kind && leb kind 7) (eventOn script (eventOf (kindOf kind fields) tokens)) (answered 2 0)
+abbrev pub InRange : Drive → Type 0
+InRange d = headerFits (d .capacity) (d .«band_count») (d .«sensor_count») ≡ true
+
+-- This is the lowest number from 1 to 6 that applies whatever the drive (theorem `lowest-anyway` in proofs/Anyway).
+pub record LowestAnyway (e : Event) : Type 0 where
+  -- it applies on every drive
+  pub applies : 1 ≤ refusedAnyway e → (d : Drive) → InRange d → applying (refusedAnyway e) (refusals d e) ≡ true
+  -- so the event is refused on every drive, with this number or a lower one
+  pub refused : 1 ≤ refusedAnyway e → (d : Drive) → InRange d → (1 ≤ answerOf d e) × (answerOf d e ≤ refusedAnyway e)
+  -- and where a number from 1 to 6 applies on every drive, this one is no greater, and not 0
+  pub lowest : (n : ℕ) → n ≤ 6 → ((d : Drive) → InRange d → applying n (refusals d e) ≡ true) → (1 ≤ refusedAnyway e) × (refusedAnyway e ≤ n)
+
+-- that number; or, if there is none, the script's answer and its place
+abbrev pub refusedEvent : (answer at : ℕ) → Event → (stops place : ℕ) → EventTold
+refusedEvent answer at e stops place = cond (eqb (refusedAnyway e) 0) (answered answer stops at) (answered (refusedAnyway e) stops place)
+
+-- the event after all events of the script, or 10 ("bad script"); with the stops and the place that stood there before
+abbrev pub eventOn : Script → Event → (stops place : ℕ) → EventTold
+eventOn (accepted capacity bands sensors es) e stops place =
+    let left = runOf (freshDrive capacity bands sensors) es in
+    answered (answerOf left e) (written (answerOf left e) (stopsOf left e) stops) place
+eventOn (bad at) e stops place = refusedEvent 10 at e stops place
+
+-- the kinds of a script's events are numbered from 1 on
+abbrev pub lastKind : ℕ
+lastKind = length kinds
+
+-- 2 "out of range: a field exceeds its range" where there is no such kind, whatever the script
+abbrev pub eventTold : Script → ℕ → List ℕ → List ℕ → (stops place : ℕ) → EventTold
+eventTold script kind fields tokens stops place =
+    cond (leb 1 kind && leb kind lastKind) (eventOn script (eventOf (kindOf kind fields) tokens) stops place) (answered 2 stops place)

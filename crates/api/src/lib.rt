@@ -1,7 +1,7 @@
 // The functions that programs in other languages link: numbers and slices of numbers, and every result a number. A result beside the
-// answer is written through a `&mut` of its own.
+// answer is written through a `&mut` of its own, and a refusal leaves what was there.
 ghost use mathlib.Core.Path.{_≡_};
-ghost use Prim.Native.Nat.{_≤_};
+ghost use Prim.Native.Nat.{ℕ, _≤_};
 ghost use lib.ListN.{length, getD};
 ghost use Rattle.token_reader.specs.Read.{readTokens};
 ghost use Rattle.drive.specs.Events.{eventOf};
@@ -10,6 +10,7 @@ ghost use Rattle.drive.specs.Events.{over};
 ghost use Rattle.run.specs.Outcome.{runScript};
 ghost use Rattle.report.specs.Listing.{told, listing, listOf};
 ghost use Rattle.api.specs.Exports.{
+  leaving,
   ranTo,
   runTold,
   readInto,
@@ -20,6 +21,8 @@ ghost use Rattle.api.specs.Exports.{
   bandColumns,
   kindOf,
   answered,
+  refusedAnyway,
+  refusedEvent,
   eventOn,
   eventTold,
 };
@@ -28,19 +31,35 @@ use drive::Drive;
 use drive::Kind;
 use sensor_set::SensorColumns;
 
+// Answers of document 01's table that the calls give or look for themselves.
+const OUT_OF_RANGE: u8 = 2;
+
+const PAST_END: u8 = 6;
+
+const BAD_SCRIPT: u8 = 10;
+
+const SHORT_BUFFER: u8 = 11;
+
+// The kinds of events are 1 to this one.
+const LAST_KIND: u64 = 7;
+
 // The listing of a script, from the output's start, and its length.
 #[no_mangle]
 pub extern "C" fn drive_list(script: &[u8], out: &mut [u8], length: &mut usize) -> u8
-    ensures { λ r. ⌜ told r (now (length .exit)) (now (out .exit)) ≡ listOf (listing (readScript (now (script .entry)))) (now (out .entry)) ⌝ }
+    ensures { λ r. ⌜ told r (now (length .exit)) (now (out .exit)) ≡ leaving (now (length .entry)) (listOf (listing (readScript (now (script .entry)))) (now (out .entry))) ⌝ }
 {
     let listed = report::list(script, out);
-    *length = listed.length;
     let answer = listed.answer;
-    answer.number()
+    let number = answer.number();
+    if number != 0 {
+        return number;
+    }
+    *length = listed.length;
+    number
 }
 
-// The run of a script's first events, at most so many: the answer and the stops of each in the two buffers, the place of a bad script and
-// the number of events run.
+// The run of a script's first events, at most so many: the answer and the stops of each in the two buffers, and the number of events run;
+// or the place of a bad script.
 #[no_mangle]
 pub extern "C" fn drive_run(
     script: &[u8],
@@ -50,13 +69,20 @@ pub extern "C" fn drive_run(
     place: &mut usize,
     count: &mut usize,
 ) -> u8
-    ensures { λ r. ⌜ ranTo r (now (place .exit)) (now (count .exit)) (now (answers .exit)) (now (stops .exit)) ≡ runTold (runScript (readScript (now (script .entry))) most (now (answers .entry)) (now (stops .entry))) ⌝ }
+    ensures { λ r. ⌜ ranTo r (now (place .exit)) (now (count .exit)) (now (answers .exit)) (now (stops .exit)) ≡ runTold (now (place .entry)) (now (count .entry)) (runScript (readScript (now (script .entry))) most (now (answers .entry)) (now (stops .entry))) ⌝ }
 {
     let ran = run::run(script, most, answers, stops);
-    *place = ran.place;
-    *count = ran.count;
     let answer = ran.answer;
-    answer.number()
+    let number = answer.number();
+    if number == BAD_SCRIPT {
+        *place = ran.place;
+        return number;
+    }
+    if number != 0 {
+        return number;
+    }
+    *count = ran.count;
+    number
 }
 
 // Copies numbers to the output's start.
@@ -73,12 +99,11 @@ fn copy(out: &mut [u64], codes: &[u64])
 
 // Hands numbers over where they fit, and tells how many.
 fn hand(codes: &[u64], out: &mut [u64], count: &mut usize) -> u8
-    ensures { λ r. ⌜ told r (now (count .exit)) (now (out .exit)) ≡ listOf (now (codes .entry)) (now (out .entry)) ⌝ }
+    ensures { λ r. ⌜ told r (now (count .exit)) (now (out .exit)) ≡ leaving (now (count .entry)) (listOf (now (codes .entry)) (now (out .entry))) ⌝ }
 {
     let length = codes.len();
     if out.len() < length {
-        *count = 0;
-        return 11;
+        return SHORT_BUFFER;
     }
     copy(out, codes);
     *count = length;
@@ -88,13 +113,12 @@ fn hand(codes: &[u64], out: &mut [u64], count: &mut usize) -> u8
 // The elements that bytes are the token form of, as `tokens_write` takes them, and how many there are.
 #[no_mangle]
 pub extern "C" fn tokens_read(bytes: &[u8], out: &mut [u64], count: &mut usize) -> u8
-    ensures { λ r. ⌜ told r (now (count .exit)) (now (out .exit)) ≡ readInto (readTokens (now (bytes .entry))) (now (out .entry)) ⌝ }
+    ensures { λ r. ⌜ told r (now (count .exit)) (now (out .exit)) ≡ leaving (now (count .entry)) (readInto (readTokens (now (bytes .entry))) (now (out .entry))) ⌝ }
 {
     let read = token_reader::read(bytes);
     let answer = read.answer;
     let given = answer.number();
     if given != 0 {
-        *count = 0;
         return given;
     }
     let expression = read.expression;
@@ -108,12 +132,16 @@ pub extern "C" fn tokens_read(bytes: &[u8], out: &mut [u64], count: &mut usize) 
 // plus a code is an operator.
 #[no_mangle]
 pub extern "C" fn tokens_write(codes: &[u64], out: &mut [u8], count: &mut usize) -> u8
-    ensures { λ r. ⌜ told r (now (count .exit)) (now (out .exit)) ≡ writeInto (now (codes .entry)) (now (out .entry)) ⌝ }
+    ensures { λ r. ⌜ told r (now (count .exit)) (now (out .exit)) ≡ leaving (now (count .entry)) (writeInto (now (codes .entry)) (now (out .entry))) ⌝ }
 {
     let written = token_writer::write(codes, out);
-    *count = written.count;
     let answer = written.answer;
-    answer.number()
+    let number = answer.number();
+    if number != 0 {
+        return number;
+    }
+    *count = written.count;
+    number
 }
 
 // What the fresh drive of a header counts.
@@ -222,34 +250,65 @@ fn kind_of(kind: u64, fields: &[u64]) -> Kind
     }
 }
 
+// The number that an event gets whatever the script is, 0 where there is none.
+fn refused_anyway(kind: Kind, tokens: &[u8]) -> u8
+    ensures { λ r. ⌜ r ≡ refusedAnyway (eventOf kind (now (tokens .entry))) ⌝ }
+{
+    let made = Drive::fresh(Drive::CAPACITY, Drive::BANDS, Drive::SENSORS);
+    let drive = made.drive;
+    let reply = events::apply(drive, kind, tokens);
+    let answer = reply.answer;
+    let number = answer.number();
+    if PAST_END < number {
+        return 0;
+    }
+    number
+}
+
+// One event where the script is refused at a place: the event's own number, or that of the script and the place.
+fn event_unrun(kind: Kind, tokens: &[u8], answer: u8, at: usize, place: &mut usize) -> u8
+    ensures { λ r. ⌜ ((stops : ℕ) → answered r stops (now (place .exit)) ≡ refusedEvent answer at (eventOf kind (now (tokens .entry))) stops (now (place .entry))) ⌝ }
+{
+    let own = refused_anyway(kind, tokens);
+    if own != 0 {
+        return own;
+    }
+    *place = at;
+    answer
+}
+
 // One event on the drive that a script leaves, by way of lent memory: a byte for each of the script's events in two buffers.
 fn event_by(
     script: &[u8],
     kind: Kind,
     tokens: &[u8],
     stops: &mut u64,
+    place: &mut usize,
     answers: &mut [u8],
     counts: &mut [u8],
 ) -> u8
     requires { ⌜ (mostEvents ≤ length (now answers)) × (mostEvents ≤ length (now counts)) ⌝ }
-    ensures { λ r. ⌜ answered r (now (stops .exit)) ≡ eventOn (readScript (now (script .entry))) (eventOf kind (now (tokens .entry))) ⌝ }
+    ensures { λ r. ⌜ answered r (now (stops .exit)) (now (place .exit)) ≡ eventOn (readScript (now (script .entry))) (eventOf kind (now (tokens .entry))) (now (stops .entry)) (now (place .entry)) ⌝ }
 {
     let ran = run::run(script, run::WHOLE, answers, counts);
     let ran_answer = ran.answer;
-    let number = ran_answer.number();
-    if number != 0 {
-        *stops = 0;
-        return number;
+    let refusal = ran_answer.number();
+    if refusal != 0 {
+        return event_unrun(kind, tokens, refusal, ran.place, place);
     }
     let drive = ran.drive;
     let reply = events::apply(drive, kind, tokens);
-    *stops = reply.stops;
     let answer = reply.answer;
-    answer.number()
+    let number = answer.number();
+    if number != 0 {
+        return number;
+    }
+    *stops = reply.stops;
+    number
 }
 
-// One event, with any numbers, on the drive that a script leaves: its answer and its stops. The kind is a script's, and so are the fields,
-// save that a Set has a value for each column, named or not; the bytes of an expression go beside them.
+// One event, with any numbers, on the drive that a script leaves: its answer and its stops, or the place of a bad script. The kind is a
+// script's, and so are the fields, save that a Set has a value for each column, named or not; the bytes of an expression go beside them.
 #[no_mangle]
 pub extern "C" fn drive_event(
     script: &[u8],
@@ -257,19 +316,26 @@ pub extern "C" fn drive_event(
     fields: &[u64],
     tokens: &[u8],
     stops: &mut u64,
+    place: &mut usize,
 ) -> u8
-    ensures { λ r. ⌜ answered r (now (stops .exit)) ≡ eventTold (readScript (now (script .entry))) kind (now (fields .entry)) (now (tokens .entry)) ⌝ }
+    ensures { λ r. ⌜ answered r (now (stops .exit)) (now (place .exit)) ≡ eventTold (readScript (now (script .entry))) kind (now (fields .entry)) (now (tokens .entry)) (now (stops .entry)) (now (place .entry)) ⌝ }
 {
     if kind < 1 {
-        *stops = 0;
-        return 2;
+        return OUT_OF_RANGE;
     }
-    if 7 < kind {
-        *stops = 0;
-        return 2;
+    if LAST_KIND < kind {
+        return OUT_OF_RANGE;
     }
     let event = kind_of(kind, fields);
     let mut answers = [0; run::MOST_EVENTS];
     let mut counts = [0; run::MOST_EVENTS];
-    event_by(script, event, tokens, stops, &mut answers, &mut counts)
+    event_by(
+        script,
+        event,
+        tokens,
+        stops,
+        place,
+        &mut answers,
+        &mut counts,
+    )
 }

@@ -1,4 +1,4 @@
-use Rattle.api.proofs.Telling.{run-told}
+use Rattle.api.proofs.Telling.{run-bad, run-refused, run-told}
 use borrow.Author.Needs.{needs}
 use Rattle.api.proofs.drive_run.Statement.{statement}
 use Rattle.api.proofs.drive_run.Tie as tie
@@ -16,8 +16,25 @@ same-length-2 : tie.Need-same-length-2
 same-length-2 c = search needs
 
 returns : tie.Need-returns
-returns c = search (run-told, needs)
+returns c = search (run-bad, needs)
+
+same-length-3 : tie.Need-same-length-3
+same-length-3 c = search needs
+
+same-length-4 : tie.Need-same-length-4
+same-length-4 c = search needs
+
+returns-2 : tie.Need-returns-2
+returns-2 c = search (run-refused, needs)
+
+same-length-5 : tie.Need-same-length-5
+same-length-5 c = search needs
+
+same-length-6 : tie.Need-same-length-6
+same-length-6 c = search needs
+
+returns-3 : tie.Need-returns-3
+returns-3 c = search (run-told, needs)
 
 pub drive-run-spec : {M : Type 1} → statement M
-drive-run-spec =
-    tie.close (tie.spec run-requires number-requires same-length same-length-2 returns)
+drive-run-spec = tie.close (tie.spec run-requires number-requires same-length same-length-2 returns same-length-3 same-length-4 returns-2 same-length-5 same-length-6 returns-3)

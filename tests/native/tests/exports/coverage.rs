@@ -37,6 +37,8 @@ pub struct Coverage {
     /// Of events, and of calls.
     answers: [u64; 10],
     calls: [u64; 12],
+    /// Of events on bad scripts.
+    bad_events: [u64; 12],
     stops: BTreeMap<u8, u64>,
     moves: BTreeMap<(u64, u8, u8), u64>,
     stays: [u64; 5],
@@ -52,6 +54,10 @@ impl Coverage {
 
     pub fn answer(&mut self, answer: u8) {
         self.calls[answer as usize] += 1;
+    }
+
+    pub fn on_bad(&mut self, answer: u8) {
+        self.bad_events[answer as usize] += 1;
     }
 
     pub fn listing(&mut self, answers: &[u8], stops: &[u8], bad: Option<usize>) {
@@ -118,9 +124,10 @@ impl Coverage {
         assert!([0, 2, 3, 4, 11].iter().all(|&a| self.calls[a] > 0), "an answer of a token call was not reached");
     }
 
-    /// The same of single events: all answers but 11.
+    /// The same of single events: all answers but 11, and on a bad script 1 to 6 and 10.
     pub fn events(&self) {
-        println!("\nanswers of single events, 0 to 11: {:?}", self.calls);
+        println!("\nanswers of single events, 0 to 11: {:?}; of them on bad scripts: {:?}", self.calls, self.bad_events);
         assert!(self.calls[..11].iter().all(|&n| n > 0), "an answer of a single event was not reached");
+        assert!([1, 2, 3, 4, 5, 6, 10].iter().all(|&a| self.bad_events[a] > 0), "an answer on a bad script was not reached");
     }
 }

@@ -35,12 +35,13 @@ mod exported {
             tokens: *const u8,
             tokens_len: usize,
             stops: *mut u64,
+            place: *mut usize,
         ) -> u8;
     }
 }
 
-/// What the numbers written through a pointer hold before a call: each function writes all of them.
-const UNWRITTEN: usize = 0x5a5a_5a5a;
+/// What the numbers behind a pointer hold before a call, and after it where the call does not write them.
+pub const UNWRITTEN: usize = 0x5a5a_5a5a;
 
 #[derive(Debug, PartialEq)]
 pub struct Told {
@@ -67,6 +68,26 @@ pub struct Fresh {
 pub struct Answered {
     pub answer: u8,
     pub stops: u64,
+    pub place: usize,
+}
+
+impl Told {
+    /// A refusal: the number is as it was.
+    pub fn refused(answer: u8) -> Self {
+        Told { answer, count: UNWRITTEN }
+    }
+}
+
+impl Answered {
+    /// An event that is done.
+    pub fn done(stops: u64) -> Self {
+        Answered { answer: 0, stops, place: UNWRITTEN }
+    }
+
+    /// A refusal, with its place where it is 10: all else is as it was.
+    pub fn refused(answer: u8, place: Option<usize>) -> Self {
+        Answered { answer, stops: UNWRITTEN as u64, place: place.unwrap_or(UNWRITTEN) }
+    }
 }
 
 pub fn list(script: &[u8], out: &mut [u8]) -> Told {
@@ -116,7 +137,7 @@ pub fn fresh(capacity: u64, bands: u64, sensors: u64) -> Fresh {
 
 /// One event on the drive that the script leaves. A Set's fields are its row, its mask and a value for every column.
 pub fn event(script: &[u8], kind: u64, fields: &[u64], tokens: &[u8]) -> Answered {
-    let mut stops = UNWRITTEN as u64;
+    let (mut stops, mut place) = (UNWRITTEN as u64, UNWRITTEN);
     let answer = unsafe {
         exported::drive_event(
             script.as_ptr(),
@@ -127,7 +148,8 @@ pub fn event(script: &[u8], kind: u64, fields: &[u64], tokens: &[u8]) -> Answere
             tokens.as_ptr(),
             tokens.len(),
             &mut stops,
+            &mut place,
         )
     };
-    Answered { answer, stops }
+    Answered { answer, stops, place }
 }

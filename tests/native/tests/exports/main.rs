@@ -12,9 +12,12 @@ mod tokens;
 
 use drive_native::engine::Lister;
 use coverage::Coverage;
-use library::{Answered, Ran, Told};
+use library::{Answered, Ran, Told, UNWRITTEN};
 use random::Random;
 use scripts::{Damage, Script, DAMAGES};
+
+/// The greatest header: capacity, bands and sensors.
+const GREATEST: [u64; 3] = [1 << 48, 16, 16];
 
 /// What lent memory holds before a call.
 const PATTERN: u8 = 0xa5;
@@ -67,7 +70,7 @@ fn compare_list(script: &[u8], expected: &Listing, slack: usize) {
     assert!(out[text.len()..].iter().all(|&b| b == PATTERN));
 
     let mut short = vec![PATTERN; text.len() - 1];
-    assert_eq!(library::list(script, &mut short), Told { answer: 11, count: 0 });
+    assert_eq!(library::list(script, &mut short), Told::refused(11));
     assert!(short.iter().all(|&b| b == PATTERN));
 }
 
@@ -82,11 +85,11 @@ fn compare_run(r: &mut Random, script: &[u8], expected: &Listing, reached: &mut 
     let ran = library::run(script, most, &mut answers, &mut stops);
     reached.answer(ran.answer);
     if let Some(place) = expected.bad {
-        assert_eq!(ran, Ran { answer: 10, place, count: 0 }, "script {script:02x?}");
+        assert_eq!(ran, Ran { answer: 10, place, count: UNWRITTEN }, "script {script:02x?}");
         assert!(answers.iter().chain(&stops).all(|&b| b == PATTERN));
         return;
     }
-    assert_eq!(ran, Ran { answer: 0, place: 0, count }, "script {script:02x?}");
+    assert_eq!(ran, Ran { answer: 0, place: UNWRITTEN, count }, "script {script:02x?}");
     assert!(
         answers[..count] == expected.answers[..count] && stops[..count] == expected.stops[..count],
         "script {script:02x?}"
@@ -97,7 +100,7 @@ fn compare_run(r: &mut Random, script: &[u8], expected: &Listing, reached: &mut 
         let mut answers = vec![PATTERN; count - first as usize];
         let mut stops = vec![PATTERN; count - !first as usize];
         let ran = library::run(script, most, &mut answers, &mut stops);
-        assert_eq!(ran, Ran { answer: 11, place: 0, count: 0 });
+        assert_eq!(ran, Ran { answer: 11, place: UNWRITTEN, count: UNWRITTEN });
         assert!(answers.iter().chain(&stops).all(|&b| b == PATTERN));
         reached.answer(ran.answer);
     }
@@ -165,7 +168,10 @@ fn compare_event(r: &mut Random, lister: &mut Lister, script: &Script, reached: 
     let listing = Listing::of(lister, &bytes);
     let Some(event) = script.events.last() else { return };
     let last = script.events.len() - 1;
-    let expected = Answered { answer: listing.answers[last], stops: listing.stops[last] as u64 };
+    let expected = match listing.answers[last] {
+        0 => Answered::done(listing.stops[last] as u64),
+        answer => Answered::refused(answer, None),
+    };
     let fields = event.direct(r);
     let tokens = event.tokens.clone().unwrap_or_else(|| r.pick(&[&b""[..], b"xyz"]).to_vec());
     let before = &bytes[..places[last]];
@@ -174,10 +180,14 @@ fn compare_event(r: &mut Random, lister: &mut Lister, script: &Script, reached: 
     reached.answer(got.answer);
 }
 
-/// Numbers that no script can hold: 2, unless there is no such row.
+/// Numbers that no script can hold: 2, unless there is no such row. On a bad script there is none that the greatest header does not count.
 fn compare_beyond(r: &mut Random, script: &Script, reached: &mut Coverage) {
-    let bytes = script.bytes();
-    let [_, bands, sensors] = script.header;
+    let mut bytes = script.bytes();
+    let [_, mut bands, mut sensors] = script.header;
+    if r.one_in(3) {
+        bytes = scripts::damaged(r, script, Damage::UnknownKind).0;
+        (bands, sensors) = (GREATEST[1], GREATEST[2]);
+    }
     let row = r.below(18);
     let mut fields = vec![row, r.below(64), 0, 0, 0, 0, 0, 0, 0];
     let (kind, count, tokens) = match r.below(4) {
@@ -194,8 +204,27 @@ fn compare_beyond(r: &mut Random, script: &Script, reached: &mut Coverage) {
     };
     let answer = if row < count { 2 } else { 1 };
     let got = library::event(&bytes, kind, &fields, &tokens);
-    assert_eq!(got, Answered { answer, stops: 0 }, "kind {kind} fields {fields:?}");
+    assert_eq!(got, Answered::refused(answer, None), "kind {kind} fields {fields:?}");
     reached.answer(got.answer);
+}
+
+/// An event on a bad script: the number from 1 to 6 that it gets on the fresh drive of the greatest header, by the engine, or else 10 and the
+/// place.
+fn compare_bad(r: &mut Random, lister: &mut Lister, script: &Script, reached: &mut Coverage) {
+    let how = r.pick(&[Damage::UnknownKind, Damage::UnknownMaskBit, Damage::HeaderOutOfRange]);
+    let (bytes, known) = scripts::damaged(r, script, how);
+    let header = if r.one_in(2) { script.header } else { GREATEST };
+    let event = scripts::event(r, header);
+    let alone = Script { header: GREATEST, events: vec![event.clone()] };
+    let expected = match Listing::of(lister, &alone.bytes()).answers[0] {
+        answer @ 1..=6 => Answered::refused(answer, None),
+        _ => Answered::refused(10, known.unwrap()),
+    };
+    let fields = event.direct(r);
+    let got = library::event(&bytes, event.kind, &fields, &event.tokens.clone().unwrap_or_default());
+    assert_eq!(got, expected, "script {bytes:02x?} kind {} fields {fields:?}", event.kind);
+    reached.answer(got.answer);
+    reached.on_bad(got.answer);
 }
 
 /// Single events given directly: such as scripts hold, such as none can hold, and on bad scripts.
@@ -209,11 +238,8 @@ fn direct_events() {
         compare_event(r, &mut lister, &script, &mut reached);
         if number % 4 == 0 {
             compare_beyond(r, &script, &mut reached);
-            let (bytes, _) = scripts::damaged(r, &script, Damage::UnknownKind);
-            let got = library::event(&bytes, 2, &[1], &[]);
-            assert_eq!(got, Answered { answer: 10, stops: 0 });
-            reached.answer(got.answer);
         }
+        compare_bad(r, &mut lister, &script, &mut reached);
     }
     reached.events();
 }
@@ -272,7 +298,7 @@ fn compare_read(lister: &mut Lister, bytes: &[u8], reached: &mut Coverage) {
     reached.answer(told.answer);
     match tokens::read(bytes) {
         Err(answer) => {
-            assert_eq!(told, Told { answer, count: 0 }, "{bytes:02x?}");
+            assert_eq!(told, Told::refused(answer), "{bytes:02x?}");
             assert!(out.iter().all(|&c| c == CODE));
         }
         Ok(codes) => {
@@ -284,7 +310,7 @@ fn compare_read(lister: &mut Lister, bytes: &[u8], reached: &mut Coverage) {
             assert_eq!(&back[..bytes.len()], bytes);
             if !codes.is_empty() {
                 let mut short = vec![CODE; codes.len() - 1];
-                assert_eq!(library::read_tokens(bytes, &mut short), Told { answer: 11, count: 0 });
+                assert_eq!(library::read_tokens(bytes, &mut short), Told::refused(11));
                 assert!(short.iter().all(|&c| c == CODE));
             }
         }
@@ -304,7 +330,7 @@ fn compare_write(r: &mut Random, codes: &[u64], reached: &mut Coverage) {
     let expected = expected.and_then(|bytes| if room < needed { Err(11) } else { Ok(bytes) });
     match expected {
         Err(answer) => {
-            assert_eq!(told, Told { answer, count: 0 }, "{codes:x?}");
+            assert_eq!(told, Told::refused(answer), "{codes:x?}");
             assert!(out.iter().all(|&b| b == PATTERN));
         }
         Ok(bytes) => {

@@ -1,0 +1,148 @@
+/* worked.c: document 01's worked script over include/drive.h. It prints one line where every call does as the header says; else it says which
+ * test failed, and fails. */
+#include <stdio.h>
+#include <stdlib.h>
+#include <string.h>
+
+#include "drive.h"
+
+static const uint8_t SCRIPT[] = {
+    0xE8, 0x07, 0x02, 0x01,                                                       /* 1,000 blocks, 2 bands, 1 sensor */
+    0x04, 0x00, 0x1B, 0x01, 0x05, 0x03, 0x05,                                     /* sensor Set */
+    0x05, 0x01, 0x21, 0x01, 0x0E,                                                 /* band Set, and its expression: */
+    0xF0, 0xF2, 0xA4, 0x00, 0x00, 0x0C, 0x0E, 0xA4, 0x00, 0x00, 0x00, 0x00, 0xF3, 0xF1,
+    0x06, 0x01, 0x64, 0x32,                                                       /* geometry */
+    0x01, 0x00, 0x88, 0x27,                                                       /* reading */
+    0x02, 0x05,                                                                   /* elapse */
+    0x07, 0x00, 0x63, 0x02,                                                       /* a read and a write */
+    0x07, 0x01, 0x63, 0x02,
+    0x05, 0x01, 0x04, 0x00,                                                       /* an unlock, which is held */
+    0x08                                                                          /* no event: it makes the script bad */
+};
+
+/* The script without its last byte, where its expression stands, and where its elapse does. */
+enum { WHOLE = sizeof SCRIPT - 1, TOKENS_AT = 16, TOKENS = 14, ELAPSE_AT = 38 };
+
+static const char LISTING[] =
+    "e 0 0 0\ne 1 0 0\ne 2 0 0\ne 3 0 0\ne 4 0 1\ne 5 9 0\ne 6 0 0\ne 7 8 0\nb 0 0 0 0\nb 1 1 0 1\ns 0 1 2 1 0\n";
+
+static const uint8_t ANSWERS[] = {0, 0, 0, 0, 0, 9, 0, 8};
+static const uint8_t STOPS[] = {0, 0, 0, 0, 1, 0, 0, 0};
+
+/* What numbers and bytes hold before a call. */
+enum { BEFORE = 0x5A5A, BYTE = 0xA5 };
+
+static int tests;
+
+static void expect(int holds, const char *what)
+{
+    tests++;
+    if (!holds) {
+        fprintf(stderr, "worked: %s\n", what);
+        exit(1);
+    }
+}
+
+/* Whether bytes are as they were before a call. */
+static int kept(const uint8_t *bytes, size_t n)
+{
+    for (size_t i = 0; i < n; i++) {
+        if (bytes[i] != BYTE) {
+            return 0;
+        }
+    }
+    return 1;
+}
+
+static void listing(void)
+{
+    uint8_t out[256];
+    size_t length = BEFORE, size = sizeof LISTING - 1;
+    memset(out, BYTE, sizeof out);
+    expect(drive_list(SCRIPT, WHOLE, out, size - 1, &length) == DRIVE_SHORT_BUFFER, "a short output gets 11");
+    expect(length == BEFORE && kept(out, sizeof out), "11 leaves the output and the length of a listing");
+    expect(drive_list(SCRIPT, WHOLE, out, sizeof out, &length) == DRIVE_DONE, "the script is listed");
+    expect(length == size && memcmp(out, LISTING, size) == 0, "the listing is document 01's");
+    expect(kept(out + size, sizeof out - size), "the rest of the output is as it was");
+    expect(drive_list(SCRIPT, WHOLE + 1, out, sizeof out, &length) == DRIVE_DONE, "a bad script has a listing");
+    expect(length == 5 && memcmp(out, "f 52\n", 5) == 0, "which is its place");
+}
+
+static void run(void)
+{
+    uint8_t answers[16], stops[16];
+    size_t place = BEFORE, count = BEFORE;
+    memset(answers, BYTE, sizeof answers);
+    memset(stops, BYTE, sizeof stops);
+    expect(drive_run(SCRIPT, WHOLE, UINT64_MAX, answers, 8, stops, 7, &place, &count) == DRIVE_SHORT_BUFFER, "seven bytes of stops get 11");
+    expect(place == BEFORE && count == BEFORE, "11 writes no number of a run");
+    expect(drive_run(SCRIPT, WHOLE + 1, UINT64_MAX, answers, 16, stops, 16, &place, &count) == DRIVE_BAD_SCRIPT, "a bad script gets 10");
+    expect(place == WHOLE && count == BEFORE, "10 writes the place alone");
+    expect(kept(answers, 16) && kept(stops, 16), "a refused run leaves both buffers");
+    place = BEFORE;
+    expect(drive_run(SCRIPT, WHOLE, UINT64_MAX, answers, 16, stops, 16, &place, &count) == DRIVE_DONE, "the script runs");
+    expect(place == BEFORE && count == 8, "done writes the number of events alone");
+    expect(memcmp(answers, ANSWERS, 8) == 0 && memcmp(stops, STOPS, 8) == 0, "answers and stops are document 01's");
+    expect(kept(answers + 8, 8) && kept(stops + 8, 8), "the rest of both buffers is as it was");
+}
+
+static void events(void)
+{
+    const uint64_t unlock[] = {1, 4, 0, 0, 0, 0, 0}, five[] = {5}, no_type[] = {3}, no_sensor[] = {16, 0};
+    const uint8_t none[] = {0};
+    uint64_t stops = BEFORE;
+    size_t place = BEFORE;
+    expect(drive_event(SCRIPT, WHOLE, DRIVE_BAND_SET, unlock, 7, none, 0, &stops, &place) == DRIVE_HELD, "the unlock is held");
+    expect(stops == BEFORE && place == BEFORE, "8 writes nothing");
+    expect(drive_event(SCRIPT, WHOLE + 1, DRIVE_READING, no_sensor, 2, none, 0, &stops, &place) == DRIVE_NO_ROW, "1 before 10");
+    expect(drive_event(SCRIPT, WHOLE + 1, DRIVE_RESET, no_type, 1, none, 0, &stops, &place) == DRIVE_OUT_OF_RANGE, "2 before 10");
+    expect(drive_event(SCRIPT, WHOLE + 1, 8, five, 1, none, 0, &stops, &place) == DRIVE_OUT_OF_RANGE, "there is no kind 8");
+    expect(stops == BEFORE && place == BEFORE, "1 and 2 write nothing on a bad script");
+    expect(drive_event(SCRIPT, WHOLE + 1, DRIVE_ELAPSE, five, 1, none, 0, &stops, &place) == DRIVE_BAD_SCRIPT, "10 on a bad script");
+    expect(stops == BEFORE && place == WHOLE, "10 writes the place alone");
+    place = BEFORE;
+    expect(drive_event(SCRIPT, ELAPSE_AT, DRIVE_ELAPSE, five, 1, none, 0, &stops, &place) == DRIVE_DONE, "the elapse is done");
+    expect(stops == 1 && place == BEFORE, "and has one stop");
+}
+
+static void fresh(void)
+{
+    uint64_t blocks = BEFORE;
+    size_t bands = BEFORE, sensors = BEFORE;
+    expect(drive_fresh(1000, 2, 1, &blocks, &bands, &sensors) == DRIVE_DONE, "the script's header is in range");
+    expect(blocks == 1000 && bands == 2 && sensors == 1, "and its fresh drive is that of the header");
+    expect(drive_fresh(1000, 17, 1, &blocks, &bands, &sensors) == DRIVE_OUT_OF_RANGE, "17 bands get 2");
+    expect(blocks == 1 && bands == 1 && sensors == 0, "and the drive of capacity 1, one band and no sensors");
+}
+
+static void tokens(void)
+{
+    const uint64_t no_operator[] = {DRIVE_NOT + 1};
+    uint64_t codes[DRIVE_MOST_ELEMENTS] = {BEFORE};
+    uint8_t out[TOKENS + 1];
+    size_t count = BEFORE;
+    memset(out, BYTE, sizeof out);
+    expect(tokens_read(SCRIPT + TOKENS_AT, TOKENS - 1, codes, 32, &count) == DRIVE_NOT_TOKENS, "cut tokens get 3");
+    expect(tokens_read(SCRIPT + TOKENS_AT, TOKENS, codes, 0, &count) == DRIVE_SHORT_BUFFER, "no room for an element gets 11");
+    expect(count == BEFORE && codes[0] == BEFORE, "tokens that are refused write nothing");
+    expect(tokens_read(SCRIPT + TOKENS_AT, TOKENS, codes, 32, &count) == DRIVE_DONE, "the script's expression is read");
+    expect(count == 1 && codes[0] == 0, "it is a reference to row 0");
+    count = BEFORE;
+    expect(tokens_write(no_operator, 1, out, sizeof out, &count) == DRIVE_OUT_OF_RANGE, "there is no operator 3");
+    expect(tokens_write(codes, 1, out, TOKENS - 1, &count) == DRIVE_SHORT_BUFFER, "13 bytes are too few");
+    expect(count == BEFORE && kept(out, sizeof out), "elements that are refused write nothing");
+    expect(tokens_write(codes, 1, out, sizeof out, &count) == DRIVE_DONE, "the expression is written");
+    expect(count == TOKENS && memcmp(out, SCRIPT + TOKENS_AT, TOKENS) == 0, "as the script has it");
+    expect(kept(out + TOKENS, 1), "and no byte more");
+}
+
+int main(void)
+{
+    listing();
+    run();
+    events();
+    fresh();
+    tokens();
+    printf("worked.c: %d tests of document 01's worked script over include/drive.h\n", tests);
+    return 0;
+}
