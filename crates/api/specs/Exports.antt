@@ -17,6 +17,7 @@ use Rattle.drive.specs.declared.Kind.{Kind}
 use Rattle.drive.specs.declared.Kind.the-variants as K
 use Rattle.drive.specs.State.{mostBlocks, mostBands, mostSensors, headerFits, freshDrive}
 use Rattle.drive.specs.Events.{Event, refusals, answerOf, stopsOf, eventOf, runOf}
+use Rattle.numbers.specs.Groups.{badScript}
 use Rattle.event_reader.specs.Fields.{kinds}
 use Rattle.script.specs.Whole.{Script, accepted, bad}
 use Rattle.run.specs.Outcome.{RunOutcome, outcome}
@@ -37,7 +38,7 @@ pub data RunTold : Type 0 where
 -- with the place and the number of events that stood there before: "Answer 10 carries a place", and no other answer writes one
 abbrev pub runTold : (place count : ℕ) → RunOutcome → RunTold
 runTold place count (outcome answer at ran drive answers stops) =
-    ranTo answer (cond (eqb answer 10) at place) (written answer ran count) answers stops
+    ranTo answer (cond (eqb answer badScript) at place) (written answer ran count) answers stops
 
 -- tokens read: the elements from the start of the output, 11 where they do not fit ("short buffer"); or 2, 3 or 4, and the output as it was
 abbrev pub readInto : TokenOutcome → List ℕ → Told
@@ -128,7 +129,7 @@ abbrev pub eventOn : Script → Event → (stops place : ℕ) → EventTold
 eventOn (accepted capacity bands sensors es) e stops place =
     let left = runOf (freshDrive capacity bands sensors) es in
     answered (answerOf left e) (written (answerOf left e) (stopsOf left e) stops) place
-eventOn (bad at) e stops place = refusedEvent 10 at e stops place
+eventOn (bad at) e stops place = refusedEvent badScript at e stops place
 
 -- the kinds of a script's events are numbered from 1 on
 abbrev pub lastKind : ℕ

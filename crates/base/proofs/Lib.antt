@@ -7,3 +7,4 @@ pub mod Columns
 pub mod Rows
 pub mod Spliced
 pub mod Refusals
+pub mod Bytes

@@ -1,7 +1,8 @@
--- Tests over the elements of a list.
-use Prim.Native.Nat.{ℕ, _+_}
+-- Tests over the elements of a list, and lists of bytes.
+use Prim.Native.Nat.{ℕ, _+_, _<_}
 use mathlib.Core.Bool.{Bool, true, false, _||_}
 use mathlib.Core.List.{List, [], _∷_}
+use lib.ListN.{getD}
 
 -- 1 where the test holds, else 0
 abbrev pub oneIf : Bool → ℕ
@@ -17,3 +18,7 @@ any p (x ∷ l) = p x || any p l
 unfoldable pub count : {A : Type 0} → (A → Bool) → List A → ℕ
 count p [] = 0
 count p (x ∷ l) = oneIf (p x) + count p l
+
+-- every element of the list is a byte
+abbrev pub Bytes : List ℕ → Type 0
+Bytes bytes = (i : ℕ) → getD bytes i 0 < 256

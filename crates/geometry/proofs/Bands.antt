@@ -7,7 +7,7 @@ use mathlib.Core.List.{List, [], _∷_, foldl}
 use lib.ListN.{length, getD}
 use Rattle.base.proofs.Cases.{cond-true, cond-false, and-yes, neither}
 use Rattle.geometry.specs.declared.Span.{Span}
-use Rattle.geometry.specs.Blocks.{covers, bandFrom, bandOf, overlapping, bandSpans, spanOf, closedAt, touchesOf}
+use Rattle.geometry.specs.Blocks.{covers, bandFrom, bandOf, overlapping, bandSpans, spanOf, closedAt, touchesOf, Lying}
 use Rattle.geometry.specs.Parts.{Barred}
 use Rattle.geometry.proofs.Ranges.{any-at, any-none, refuted}
 use Rattle.base.proofs.Rows.{getD-any}
@@ -40,7 +40,7 @@ band-cases P k (s ∷ l) x z f = go (covers s x) refl (band-cases P (k + 1) l x 
 
 module _ (bands : ℕ) (spans : List Span) (block : ℕ) where
   -- the block lies in the band that covers it, if no two bands share a block
-  pub band-of : (band : ℕ) → 1 ≤ band → band < bands → covers (spanOf spans band) block ≡ true → overlapping (bandSpans bands spans) ≡ false
+  band-of : (band : ℕ) → 1 ≤ band → band < bands → covers (spanOf spans band) block ≡ true → overlapping (bandSpans bands spans) ≡ false
       → bandOf bands spans block ≡ band
   unfolding bandOf
   band-of band h k e apart =
@@ -51,12 +51,15 @@ module _ (bands : ℕ) (spans : List Span) (block : ℕ) where
       ∙ q
 
   -- and in band 0 if none covers it
-  pub band-zero : ((band : ℕ) → 1 ≤ band → band < bands → covers (spanOf spans band) block ≡ false) → bandOf bands spans block ≡ 0
+  band-zero : ((band : ℕ) → 1 ≤ band → band < bands → covers (spanOf spans band) block ≡ false) → bandOf bands spans block ≡ 0
   unfolding bandOf
   band-zero f =
       none-at 1 (bandSpans bands spans) block
       (λ i. refuted _
       (λ t. false≢true (sym (f (1 + i) (omega arith) (below bands spans i block t)) ∙ at-band bands spans i block t)))
+
+pub lying : Lying
+lying = record { covered = band-of; else-global = band-zero }
 
 -- no band is closed
 once-true : (l : List Bool) → foldl _||_ true l ≡ true

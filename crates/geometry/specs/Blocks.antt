@@ -72,3 +72,12 @@ pub record SharedBlock (bands : ℕ) (spans : List Span) : Type 0 where
   pub known : high < bands
   pub in-low : covers (spanOf spans low) block ≡ true
   pub in-high : covers (spanOf spans high) block ≡ true
+
+-- "A block lies in the non-empty band that covers it, else in band 0.": what `bandOf` comes to (theorem `lying` in proofs/Bands)
+pub record Lying : Type 0 where
+  -- in the band that covers it, where no two share a block
+  pub covered : (bands : ℕ) (spans : List Span) (block band : ℕ) → 1 ≤ band → band < bands → covers (spanOf spans band) block ≡ true
+      → overlapping (bandSpans bands spans) ≡ false → bandOf bands spans block ≡ band
+  -- in band 0 where none covers it
+  pub else-global : (bands : ℕ) (spans : List Span) (block : ℕ)
+      → ((band : ℕ) → 1 ≤ band → band < bands → covers (spanOf spans band) block ≡ false) → bandOf bands spans block ≡ 0

@@ -5,12 +5,13 @@ use native.Mathlib.Omega.{arith}
 use mathlib.Core.List.{List, [], _∷_, _++_}
 use mathlib.Core.Bool.{Bool, true, false, cond}
 use lib.Dec.{ltb}
-use lib.ListN.{length, getD}
+use lib.ListN.{length}
 use borrow.Author.Tests.{ltb-false, lt-ltb, le-ltb, ne-eqb}
-use Rattle.numbers.specs.Groups.{found, done, prefixed, numberFrom, groupsOf, Starts, AllBytes, OneForm}
+use Rattle.base.specs.Lists.{Bytes}
+use Rattle.numbers.specs.Groups.{found, done, prefixed, numberFrom, groupsOf, Starts, OneForm}
 use Rattle.numbers.proofs.Enough.{top, more-is, below, Refused, number-refused}
 
-starts : (k at : ℕ) (s : List ℕ) (a v n : ℕ) → v < top k → AllBytes s → numberFrom at s ≡ found a v n → Starts (suc k) at s v n
+starts : (k at : ℕ) (s : List ℕ) (a v n : ℕ) → v < top k → Bytes s → numberFrom at s ≡ found a v n → Starts (suc k) at s v n
 unfolding numberFrom groupsOf top
 starts k at [] a v n l f h = let z : _≡_ {A = ℕ} 0 1 = cc in absurd (omega arith)
 starts zero at (b ∷ s) a v n l f h = go (ltb b 128) refl h
@@ -34,7 +35,7 @@ starts (suc k) at (b ∷ s) a v n l f h = go (λ w g e. starts k (at + 1) s a w 
         (r .0, rw (t, o, q) (ap (λ x. b ∷ x) (r .1)), rw (t, q) (omega (arith, r .2)))
 
 -- the only bytes that read to a number are its groups
-only-its-groups : (at : ℕ) (s : List ℕ) (a v n : ℕ) → AllBytes s → numberFrom at s ≡ found a v n
+only-its-groups : (at : ℕ) (s : List ℕ) (a v n : ℕ) → Bytes s → numberFrom at s ≡ found a v n
     → Starts 10 at s v n
 unfolding top
 only-its-groups at s a v n f h = starts 9 at s a v n (omega (arith, below at s a v n h)) f h

@@ -5,7 +5,8 @@ use Prim.Native.Nat.{ℕ, zero, suc, _+_, _*_, _/_, _%_, _<_}
 use mathlib.Core.Bool.{cond}
 use mathlib.Core.List.{List, [], _∷_, _++_}
 use lib.Dec.{eqb, ltb}
-use lib.ListN.{length, drop, getD}
+use lib.ListN.{length, drop}
+use Rattle.base.specs.Lists.{Bytes}
 use Rattle.numbers.specs.declared.Number.{Number}
 use Rattle.numbers.specs.declared.Number.the-variants.{Is, Bad}
 
@@ -57,10 +58,6 @@ groupsOf (suc k) v = cond (ltb v 128) (v ∷ []) ((v % 128 + 128) ∷ groupsOf k
 abbrev pub Starts : ℕ → ℕ → List ℕ → ℕ → ℕ → Type 0
 Starts k at s v n = (rest : List ℕ) × (s ≡ groupsOf k v ++ rest) × (n ≡ at + length (groupsOf k v))
 
--- a list of bytes, as a script is
-abbrev pub AllBytes : List ℕ → Type 0
-AllBytes s = (i : ℕ) → getD s i 0 < 256
-
 -- "Every number is in groups of seven bits, low group first, top bit set when more follow. Shortest form only, below 2^64.": at every place
 -- of a string of bytes
 pub record OneForm : Type 0 where
@@ -68,7 +65,7 @@ pub record OneForm : Type 0 where
   pub its-groups : (at v : ℕ) (rest : List ℕ) → v < 18446744073709551616
       → numberFrom at (groupsOf 10 v ++ rest) ≡ found done v (at + length (groupsOf 10 v))
   -- and no other bytes do
-  pub no-other : (at : ℕ) (s : List ℕ) (answer v n : ℕ) → AllBytes s → numberFrom at s ≡ found answer v n → Starts 10 at s v n
+  pub no-other : (at : ℕ) (s : List ℕ) (answer v n : ℕ) → Bytes s → numberFrom at s ≡ found answer v n → Starts 10 at s v n
   -- a number that is read is below 2^64, and its answer is done
   pub within : (at : ℕ) (s : List ℕ) (answer v n : ℕ) → numberFrom at s ≡ found answer v n → (v < 18446744073709551616) × (answer ≡ done)
   -- what does not read is bad script

@@ -20,7 +20,7 @@ use Rattle.sensor_set.specs.Columns.{sensorAfter}
 use Rattle.sensor.specs.Sound.{Sound}
 use Rattle.sensor_set.proofs.Keeping.{keeps-sound}
 use Rattle.sensor.proofs.Motion.{fresh-tick, fresh-power-cycle}
-use Rattle.token_reader.specs.Format.{Bytes}
+use Rattle.base.specs.Lists.{Bytes}
 use Rattle.token_reader.specs.Read.{mostTokenBytes, TokenOutcome, elements, refusal, readTokens, expressionIn}
 use Rattle.token_reader.proofs.Fits.{read-fits}
 use Rattle.band.specs.declared.Row.{Row}

@@ -4,12 +4,12 @@ use mathlib.Core.Path.{_≡_}
 use mathlib.Core.Bool.{false}
 use mathlib.Core.List.{List, [], _∷_}
 use lib.ListN.{length, getD}
+use Rattle.base.specs.Lists.{Bytes}
 use Rattle.sensor.specs.Single.{freshSensor}
 use Rattle.sensor.specs.Sound.{Sound}
 use Rattle.expression.specs.declared.Element.{Element}
 use Rattle.expression.specs.declared.Expression.{Expression}
 use Rattle.expression.specs.Elements.{mostElements, expressionOf, AllFit}
-use Rattle.token_reader.specs.Format.{Bytes}
 use Rattle.band.specs.declared.Row.{Row}
 use Rattle.band.specs.Rows.{freshRow, allResets}
 use Rattle.geometry.specs.Blocks.{bandSpans, overlapping}

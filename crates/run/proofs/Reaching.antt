@@ -10,8 +10,8 @@ use mir.Syntax.{w8}
 use mir.Val.{Fits}
 use Rattle.answer.specs.declared.Answer.{Answer}
 use Rattle.base.proofs.Cases.{cond-both}
-use Rattle.token_reader.specs.Format.{Bytes}
-use Rattle.token_reader.proofs.Fits.{bytes-drop}
+use Rattle.base.specs.Lists.{Bytes}
+use Rattle.base.proofs.Bytes.{bytes-drop, bytes-take}
 use Rattle.drive.specs.declared.Drive.{Drive}
 use Rattle.drive.specs.State.{headerFits, freshDrive}
 use Rattle.drive.specs.Events.{Event, runOf}
@@ -32,12 +32,6 @@ use Rattle.run.specs.Parts.{fewerOf, Refuses, RunsFirst}
 use Rattle.run.proofs.Whole.{accepted-is, script-run}
 
 -- ---- the tokens are bytes
-
-bytes-take : (n : ℕ) (s : List ℕ) → Bytes s → Bytes (take n s)
-bytes-take zero s b i = omega arith
-bytes-take (suc n) [] b i = omega arith
-bytes-take (suc n) (x ∷ s) b zero = b 0
-bytes-take (suc n) (x ∷ s) b (suc i) = bytes-take n s (λ j. b (suc j)) i
 
 tokens-bytes : (s : List ℕ) (start count : ℕ) → Bytes s → Bytes (tokensAt s start count)
 tokens-bytes s start count b =

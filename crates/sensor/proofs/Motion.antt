@@ -25,6 +25,7 @@ use Rattle.phases.specs.declared.Cause.the-variants.{
 use Rattle.sensor.specs.declared.single.Sensor.{Sensor}
 use Rattle.phases.specs.Phases.{isEnabled, whenEnabled, whenDisabled, powerCycled, conditionIn, moveOf, settled, levelAfter}
 use Rattle.sensor.specs.Single.{freshSensor, moved, movedBy, withLevel, withTimer, afterCause, timerIn, turnCause, turnedTo, enableOf, sensorTick, powerCycleOf}
+use Rattle.sensor.specs.Turning.{timeoutTo, waitingAt, settledAt, Turns, Turning}
 use Rattle.sensor.specs.Parts.{loweredBy}
 
 settled-off : (p : Phase) (s : Sensor) → timerIn (settled p) s ≡ 0
@@ -40,16 +41,6 @@ unfolding afterCause moveOf
 ended-stops s = settled-off (s .phase) s
 
 -- ---- a turn of the level, by side
-
--- the timeout of a turn to level l, and the phases in which the sensor then waits and settles
-abbrev pub timeoutTo : Bool → Sensor → ℕ
-timeoutTo l s = cond l (s .«on_timeout») (s .«off_timeout»)
-
-abbrev pub waitingAt : Bool → Phase
-waitingAt l = cond l ST0 ST1
-
-abbrev pub settledAt : Bool → Phase
-settledAt l = cond l SS1 SS2
 
 enters-enabled : (p q : Phase) → isEnabled p ≡ true → whenEnabled p q ≡ Enters q
 enters-enabled p q e = ap (λ (b : Bool). cond b (Enters q) Stays) e
@@ -73,7 +64,7 @@ turn-waits false s e d n =
     turns false s FalseWaiting d (turn-cause false s false (ne-eqb (timeoutTo false s) 0 n)) ∙ rw (enters-enabled (s .phase) ST1 e)
 
 -- and settles at once where its timeout is 0
-pub turn-settles : (l : Bool) (s : Sensor) → isEnabled (s .phase) ≡ true → Bool·beq l (s .level) ≡ false → timeoutTo l s ≡ 0
+turn-settles : (l : Bool) (s : Sensor) → isEnabled (s .phase) ≡ true → Bool·beq l (s .level) ≡ false → timeoutTo l s ≡ 0
     → turnedTo l s ≡ moved l (settledAt l) l 0 s
 unfolding afterCause moveOf
 turn-settles true s e d n =
@@ -96,7 +87,7 @@ same-level true false e = e
 same-level false true e = sym e
 same-level false false e = refl
 
-pub turn-off : (l : Bool) (s : Sensor) → s .phase ≡ SS0 → turnedTo l s ≡ withLevel l s
+turn-off : (l : Bool) (s : Sensor) → s .phase ≡ SS0 → turnedTo l s ≡ withLevel l s
 unfolding turnedTo
 turn-off l s e = go (Bool·beq l (s .level)) refl
   where
@@ -105,7 +96,7 @@ turn-off l s e = go (Bool·beq l (s .level)) refl
     go false h = ap (λ (c : Cause). afterCause c s) (turn-cause l s (eqb (timeoutTo l s) 0) refl) ∙ off-step l (eqb (timeoutTo l s) 0) s e
 
 -- enabling an enabled sensor does nothing
-pub enable-again : (s : Sensor) → isEnabled (s .phase) ≡ true → enableOf s ≡ s
+enable-again : (s : Sensor) → isEnabled (s .phase) ≡ true → enableOf s ≡ s
 unfolding enableOf afterCause moveOf
 enable-again s e = go (s .level)
   where
@@ -119,6 +110,14 @@ enable-again s e = go (s .level)
         at true = stay SS1
         at false = stay ST0
     go false = stay SS2
+
+pub turning : Turning
+turning = record {
+  at-once = λ l s t z. turn-settles l s (t .enabled) (t .other) z;
+  waiting = λ l s t z. turn-waits l s (t .enabled) (t .other) z;
+  disabled = turn-off;
+  again = enable-again;
+}
 
 -- ---- a waiting sensor keeps its condition
 

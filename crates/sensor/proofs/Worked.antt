@@ -14,7 +14,8 @@ use Rattle.sensor.specs.declared.single.Sensor.{Sensor}
 use Rattle.sensor.specs.Level.{greatestReading, levelRule}
 use Rattle.sensor.specs.Single.{onOf, offOf, moved, movedBy, withLevel, judgeOf, turnCause, turnedTo, readingOf, afterCause, sensorTick}
 use Rattle.sensor.proofs.Levels.{high-true, low-false, inside-keeps, high-false}
-use Rattle.sensor.proofs.Motion.{waitingAt, turn-waits}
+use Rattle.sensor.specs.Turning.{waitingAt}
+use Rattle.sensor.proofs.Motion.{turn-waits}
 
 -- ---- levels
 

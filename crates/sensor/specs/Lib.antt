@@ -1,4 +1,5 @@
 pub mod Level
 pub mod Single
+pub mod Turning
 pub mod Sound
 pub mod Parts

@@ -19,8 +19,9 @@ use Rattle.expression.specs.Elements.{element, blank, elementsIn, expressionOf}
 use Rattle.token_reader.specs.declared.Head.{Head}
 use Rattle.token_reader.specs.declared.Head.the-variants.{Is, Broken}
 use Rattle.token_reader.specs.declared.Tokens.{Tokens}
+use Rattle.base.specs.Lists.{Bytes}
+use Rattle.base.proofs.Bytes.{bytes-drop}
 use Rattle.token_reader.specs.Format.{
-  Bytes,
   referencePrefix,
   operatorPrefix,
   widthOf,
@@ -50,7 +51,7 @@ use Rattle.token_reader.specs.Read.{
   Reads,
   WrittenAgain,
 }
-use Rattle.token_reader.proofs.Fits.{by-arm, not-broken, not-refused, bytes-drop}
+use Rattle.token_reader.proofs.Fits.{by-arm, not-broken, not-refused}
 
 -- a list that starts with a prefix is the prefix and the rest
 starts-is : (prefix bytes : List ℕ) → startsWith prefix bytes ≡ true → bytes ≡ prefix ++ drop (length prefix) bytes

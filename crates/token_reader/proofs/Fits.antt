@@ -14,7 +14,9 @@ use Rattle.expression.specs.declared.Element.{Element}
 use Rattle.expression.specs.Elements.{element, PartFits, AllFit}
 use Rattle.token_reader.specs.declared.Head.{Head}
 use Rattle.token_reader.specs.declared.Head.the-variants.{Is, Broken}
-use Rattle.token_reader.specs.Format.{Bytes, fourBytes, referencePrefix, operatorPrefix, startsWith, referenceIn, operatorIn, partIn, widthOf, isEnd}
+use Rattle.base.specs.Lists.{Bytes}
+use Rattle.base.proofs.Bytes.{bytes-drop}
+use Rattle.token_reader.specs.Format.{fourBytes, referencePrefix, operatorPrefix, startsWith, referenceIn, operatorIn, partIn, widthOf, isEnd}
 use Rattle.token_reader.specs.Read.{mostTokenBytes, TokenOutcome, elements, refusal, headOutcome, followed, andThen, readElements, readList, readTokens}
 
 -- a claim about what a choice gave, from either arm
@@ -27,9 +29,6 @@ not-broken p e = let z : _≡_ {A = ℕ} 0 1 = cc in absurd (omega arith)
 
 pub not-refused : {P : Type 0} (n : ℕ) (es : List Element) → refusal n ≡ elements es → P
 not-refused n es e = let z : _≡_ {A = ℕ} 0 1 = cc in absurd (omega arith)
-
-pub bytes-drop : (bytes : List ℕ) (n : ℕ) → Bytes bytes → Bytes (drop n bytes)
-bytes-drop bytes n k i = rw (getD-drop n bytes i 0) (k (n + i))
 
 module _ (bytes : List ℕ) (p : Part) where
   reference-fits : Bytes bytes → referenceIn bytes ≡ Is p → PartFits p

@@ -1,5 +1,5 @@
 -- Document 01, 'Expressions as tokens' (002, table 7; 003): the bytes of a list of elements, one element in them, and the end of the list.
-use Prim.Native.Nat.{ℕ, _+_, _*_, _/_, _%_, _<_}
+use Prim.Native.Nat.{ℕ, _+_, _*_, _/_, _%_}
 use mathlib.Core.Bool.{Bool, true, false, cond, _&&_}
 use mathlib.Core.List.{List, [], _∷_, _++_}
 use lib.Dec.{eqb, leb}
@@ -9,10 +9,6 @@ use Rattle.expression.specs.declared.Part.the-variants.{Reference, Operator}
 use Rattle.expression.specs.declared.Element.{Element}
 use Rattle.token_reader.specs.declared.Head.{Head}
 use Rattle.token_reader.specs.declared.Head.the-variants.{Is, Broken}
-
--- every element of the list is a byte
-abbrev pub Bytes : List ℕ → Type 0
-Bytes bytes = (i : ℕ) → getD bytes i 0 < 256
 
 -- "A reference is F2 A4 00 00 0C 0E A4, four row bytes high first, F3 (12 bytes)."
 abbrev pub referencePrefix : List ℕ

@@ -13,7 +13,8 @@ use Rattle.answer.specs.Numbers.{numberOf}
 use Rattle.expression.specs.declared.Element.{Element}
 use Rattle.expression.specs.Elements.{elementsIn, AllFit}
 use Rattle.token_reader.specs.declared.Tokens.{Tokens}
-use Rattle.token_reader.specs.Format.{Bytes, bytesOf}
+use Rattle.base.specs.Lists.{Bytes}
+use Rattle.token_reader.specs.Format.{bytesOf}
 use Rattle.token_reader.specs.Read.{elements, readTokens, answerIn, expressionIn, Reads}
 use Rattle.token_reader.proofs.Fits.{read-fits}
 use Rattle.token_reader.proofs.Again.{written-read, accepted-read}

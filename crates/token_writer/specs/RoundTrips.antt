@@ -4,11 +4,12 @@ use mathlib.Core.Path.{_≡_}
 use Prim.Native.Nat.{ℕ, _≤_}
 use mathlib.Core.List.{List}
 use lib.ListN.{length, take}
+use Rattle.base.specs.Lists.{Bytes}
 use Rattle.answer.specs.Numbers.{numberOf}
 use Rattle.expression.specs.declared.Element.{Element}
 use Rattle.expression.specs.Elements.{mostElements, elementsIn, expressionOf, AllFit}
 use Rattle.token_reader.specs.declared.Tokens.{Tokens}
-use Rattle.token_reader.specs.Format.{Bytes, bytesOf}
+use Rattle.token_reader.specs.Format.{bytesOf}
 use Rattle.token_reader.specs.Read.{elements, readTokens, Reads}
 use Rattle.token_writer.specs.declared.Written.{Written}
 use Rattle.token_writer.specs.Write.{codesOf, neededFor, Writes}
