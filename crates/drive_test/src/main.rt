@@ -108,11 +108,12 @@ fn end(drive: Drive) {
     print_sensors(drive);
 }
 
-// The events from a place on; no script here has more than 256.
+// The events from a place on: each has two bytes at least, so that no script has as many as bytes.
 fn run_from(script: &[u8], start: usize, fresh: Drive) -> Drive {
+    let most = script.len();
     let mut drive = fresh;
     let mut at = start;
-    for index in 0..256 {
+    for index in 0..most {
         let EventRead::Is {
             kind,
             start: place,
@@ -145,11 +146,18 @@ fn case(number: usize, script: &[u8]) {
     end(run_from(script, at, drive));
 }
 
-fn all_cases(input: &[u8]) {
-    for number in 0..32 {
+fn all_cases(input: &[u8], count: usize) {
+    for number in 0..count {
         let script = cases::case_of(input, number);
         case(number, script);
     }
+}
+
+// Runs every case of the input, and says how many there were and what is left over.
+fn run(input: &[u8]) {
+    let held = cases::held(input);
+    all_cases(input, held.count);
+    cases::print_end(b"drive_test", input);
 }
 
 // A band Set whose columns that the mask does not name have a value out of range.
@@ -403,7 +411,7 @@ fn least_drive() {
 fn main() {
     let mut input = [0; 8_192];
     let n = io::read_full(0, &mut input);
-    all_cases(&input[..n]);
+    run(&input[..n]);
     outside_a_script();
     headers();
     least_drive();

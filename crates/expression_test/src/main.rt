@@ -214,11 +214,18 @@ fn case(number: usize, bytes: &[u8]) {
     print(b"\n");
 }
 
-fn all_cases(input: &[u8]) {
-    for number in 0..362 {
+fn all_cases(input: &[u8], count: usize) {
+    for number in 0..count {
         let bytes = cases::case_of(input, number);
         case(number + 1, bytes);
     }
+}
+
+// Runs every case of the input, and says how many there were and what is left over.
+fn run(input: &[u8]) {
+    let held = cases::held(input);
+    all_cases(input, held.count);
+    cases::print_end(b"expression_test", input);
 }
 
 fn print_byte(byte: u8) {
@@ -338,7 +345,7 @@ fn lists_with_none() {
 fn main() {
     let mut input = io::large_buffer();
     let n = io::read_full(0, &mut input);
-    all_cases(&input[..n]);
+    run(&input[..n]);
     short_lists();
     singles();
     long_lists();

@@ -21,9 +21,6 @@ pub struct Listed {
 // An output of so many bytes is never too short: 32,766 lines of events at most, 16 of bands and 16 of sensors.
 pub const MOST: usize = 426_486;
 
-// One byte more than a script may have: so many bytes of an input show whether it is too long.
-pub const MOST_INPUT: usize = script::MOST_BYTES + 1;
-
 // Writes the listing that a run's result and its buffers give, from the output's start.
 fn put_run(out: &mut [u8], ran: Ran, answers: &[u8], stops: &[u8]) -> usize
     requires { ⌜ (Room (runLines (outcomeIn ran (now answers) (now stops))) 0 (now out)) × Sized (ran .count) (ran .drive) (now answers) (now stops) ⌝ }

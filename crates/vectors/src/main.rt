@@ -1,5 +1,16 @@
 // Runs the scripts of standard input, each after its length in four bytes, low first, and prints for each a line with its number and then its
-// listing as document 01 has it.
+// listing as document 01 has it; at the end, how many there were. 400 scripts, well formed and damaged, and 94 at the limits of the format.
+ghost use mathlib.Core.Path.{_≡_};
+ghost use lib.ListN.{length};
+
+// More than the input has.
+const SPACE: usize = 524_288;
+
+fn blank() -> [u8; SPACE]
+    ensures { λ r. ⌜ 524288 ≡ length r ⌝ }
+{
+    [0; SPACE]
+}
 
 fn title(number: usize) {
     io::write_all(1, b"# ");
@@ -15,15 +26,22 @@ fn case(number: usize, script: &[u8]) {
     io::write_all(1, text);
 }
 
-fn all_cases(input: &[u8]) {
-    for number in 0..400 {
+fn all_cases(input: &[u8], count: usize) {
+    for number in 0..count {
         let script = cases::case_of(input, number);
         case(number, script);
     }
 }
 
+// Runs every case of the input, and says how many there were and what is left over.
+fn run(input: &[u8]) {
+    let held = cases::held(input);
+    all_cases(input, held.count);
+    cases::print_end(b"vectors", input);
+}
+
 fn main() {
-    let mut input = [0; 131_072];
-    let n = io::read_full(0, &mut input);
-    all_cases(&input[..n]);
+    let mut space = blank();
+    let n = io::read_full(0, &mut space);
+    run(&space[..n]);
 }

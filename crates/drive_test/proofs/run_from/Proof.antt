@@ -4,10 +4,10 @@ use Rattle.drive_test.proofs.run_from.Statement.{statement}
 use Rattle.drive_test.proofs.run_from.Tie as tie
 
 abbrev Inv-loop : tie.InvT-loop
-Inv-loop script start drive₀ at₀ index₀ drive at index = index ≤ 256
+Inv-loop script start most drive₀ at₀ index₀ drive at index = index ≤ most
 
 abbrev μ-loop : tie.MeasureT-loop
-μ-loop script start drive₀ at₀ index₀ drive at index = 256 - index
+μ-loop script start most drive₀ at₀ index₀ drive at index = most - index
 
 loop-holds : tie.Need-loop-holds Inv-loop μ-loop
 loop-holds c = search needs

@@ -3,9 +3,9 @@ use mathlib.Core.Path.{_≡_}
 use lib.ListN.{length}
 use borrow.Author.Needs.{needs}
 use Rattle.io.proofs.Counting.{counts}
-use Rattle.listing.proofs.Reading.{before}
-use Rattle.listing.proofs.read_all.Statement.{statement}
-use Rattle.listing.proofs.read_all.Tie as tie
+use Rattle.program.proofs.Reading.{before, ended-early, all-full, less-left}
+use Rattle.program.proofs.read_all.Statement.{statement}
+use Rattle.program.proofs.read_all.Tie as tie
 
 abbrev Inv-loop : tie.InvT-loop
 Inv-loop space₀ at₀ space at = (length space ≡ length space₀) × (at ≤ length space)
@@ -23,13 +23,13 @@ same-length : tie.Need-same-length Inv-loop μ-loop
 same-length c = search needs
 
 returns : tie.Need-returns Inv-loop μ-loop
-returns c = search before
+returns c = search (before, ended-early)
 
 add-at : tie.Need-add-at Inv-loop μ-loop
 add-at c = search needs
 
 loop-less : tie.Need-loop-less Inv-loop μ-loop
-loop-less c = search needs
+loop-less c = search less-left
 
 loop-again : tie.Need-loop-again Inv-loop μ-loop
 loop-again c = search needs
@@ -38,7 +38,7 @@ same-length-2 : tie.Need-same-length-2 Inv-loop μ-loop
 same-length-2 c = search needs
 
 returns-2 : tie.Need-returns-2 Inv-loop μ-loop
-returns-2 c = search (counts, needs)
+returns-2 c = search (counts, all-full)
 
 pub read-all-spec : {M : Type 1} → statement M
 read-all-spec =

@@ -1,0 +1,131 @@
+// The program: reads a script from standard input and prints its listing (document 01, 'Listing'). No contract can say which bytes the outside
+// hands over or takes, so what is decided of them stands in functions of its own, which are equations.
+ghost use mathlib.Core.Path.{_≡_};
+ghost use Prim.Native.Nat.{_+_, _≤_};
+ghost use mathlib.Core.Bool.{false};
+ghost use lib.Dec.{eqb};
+ghost use lib.ListN.{length, take};
+ghost use Rattle.io.specs.Counts.{Counts, clamped};
+ghost use Rattle.report.specs.Listing.{mostListed};
+ghost use Rattle.program.specs.Input.{mostRead, isFailure, Lists};
+
+// One byte more than a script may have: so many bytes of an input show whether it is too long.
+pub const MOST_INPUT: usize = script::MOST_BYTES + 1;
+
+// What reading came to: whether the last read moved no byte, whether it failed, and how many bytes were read.
+struct Input {
+    ended: bool,
+    failed: bool,
+    length: usize,
+}
+
+// What one read came to, by the number that `read` answered. A read that fails counts no byte.
+fn outcome(got: isize, space: &[u8]) -> Input
+    ensures { λ r. ⌜ r .length ≡ clamped got (length (now (space .entry))) ⌝ }
+    ensures { λ r. ⌜ r .ended ≡ eqb (r .length) 0 ⌝ }
+    ensures { λ r. ⌜ r .failed ≡ isFailure got ⌝ }
+    ensures { λ r. ⌜ r .length ≤ length (now (space .entry)) ⌝ }
+{
+    let length = io::count(got, space);
+    Input {
+        ended: length == 0,
+        failed: got < 0,
+        length,
+    }
+}
+
+// Reads once.
+fn read_some(space: &mut [u8]) -> Input
+    ensures { λ r. ⌜ r .length ≤ length (now (space .exit)) ⌝ }
+    ensures { λ r. ⌜ r .ended ≡ eqb (r .length) 0 ⌝ }
+{
+    let got = libc::read(libc::STDIN_FILENO, space);
+    outcome(got, space)
+}
+
+// Reads once, into the bytes from `at` on.
+fn read_from(space: &mut [u8], at: usize) -> Input
+    requires { ⌜ at ≤ length (now space) ⌝ }
+    ensures { λ r. ⌜ at + r .length ≤ length (now (space .exit)) ⌝ }
+    ensures { λ r. ⌜ r .ended ≡ eqb (r .length) 0 ⌝ }
+{
+    read_some(&mut space[at..])
+}
+
+// Reads until a read moves no byte or the space is full, and never stops before.
+fn read_all(space: &mut [u8]) -> Input
+    ensures { λ r. ⌜ Counts (r .length) (now (space .exit)) ⌝ }
+    ensures { λ r. ⌜ (r .ended ≡ false → r .length ≡ length (now (space .exit))) ⌝ }
+{
+    let mut at = 0;
+    while at < space.len() {
+        let input = read_from(space, at);
+        if input.ended {
+            return Input {
+                ended: input.ended,
+                failed: input.failed,
+                length: at,
+            };
+        }
+        at += input.length;
+    }
+    Input {
+        ended: false,
+        failed: false,
+        length: at,
+    }
+}
+
+// Writes the listing of an input on a page, and answers how long it is. Where the input is longer than was read, its first bytes are enough.
+fn list(input: &[u8], page: &mut [u8]) -> usize
+    requires { ⌜ mostListed ≤ length (now page) ⌝ }
+    ensures { λ r. ⌜ Lists (now (input .entry)) (take r (now (page .exit))) ⌝ }
+{
+    let listed = report::list(input, page);
+    listed.length
+}
+
+// Space for an input.
+fn blank_input() -> [u8; MOST_INPUT]
+    ensures { λ r. ⌜ mostRead ≡ length r ⌝ }
+{
+    [0; MOST_INPUT]
+}
+
+// A page for every listing.
+fn blank_page() -> [u8; report::MOST]
+    ensures { λ r. ⌜ mostListed ≡ length r ⌝ }
+{
+    [0; report::MOST]
+}
+
+fn complain(text: &[u8]) {
+    io::write_all(libc::STDERR_FILENO, text);
+}
+
+// Prints the listing of an input by way of a page that every listing fits.
+fn print_by(page: &mut [u8], input: &[u8])
+    requires { ⌜ mostListed ≤ length (now page) ⌝ }
+{
+    let length = list(input, page);
+    let text = report::first(page, length);
+    if !io::write_all(libc::STDOUT_FILENO, text) {
+        complain(b"listing: standard output cannot be written\n");
+    }
+}
+
+fn print_listing(input: &[u8]) {
+    let mut page = blank_page();
+    print_by(&mut page, input);
+}
+
+// Reads a script from standard input and prints its listing. Where the input cannot be read it prints none, and complains.
+pub fn run() {
+    let mut space = blank_input();
+    let input = read_all(&mut space);
+    if input.failed {
+        complain(b"listing: standard input cannot be read\n");
+        return;
+    }
+    print_listing(&space[..input.length]);
+}
