@@ -1,24 +1,17 @@
 -- The first bytes of an input, one more than a script may have, list as all of it.
 use mathlib.Core.Path.{_≡_, refl, sym, ap, ap₂, _∙_}
 use mathlib.Core.Bool.{Bool, true, false, cond}
-use Prim.Native.Nat.{ℕ, zero, suc, _≤_, _<_}
-use native.Mathlib.Nat.{not-suc-le-zero, le-of-suc-le-suc}
+use Prim.Native.Nat.{ℕ, _≤_, _<_}
 use native.Mathlib.Omega.{arith}
-use mathlib.Core.List.{List, [], _∷_, _++_}
+use mathlib.Core.List.{List, _++_}
 use lib.Dec.{ltb, leb}
 use lib.ListN.{length, take, drop, length-take}
-use lib.Seq.{take-append-seam}
+use lib.Seq.{take-all, take-append-seam}
 use borrow.Author.Tests.{lt-ltb, ltb-true, ltb-false, le-leb}
 use Rattle.script.specs.Whole.{readScript, bad, mostScriptBytes}
 use Rattle.report.specs.Listing.{listing, mostListed, Told, told, listOf}
 use Rattle.report.proofs.Short.{never-short}
 use Rattle.program.specs.Input.{mostRead, Lists}
-
-take-all : (n : ℕ) (xs : List ℕ) → length xs ≤ n → take n xs ≡ xs
-take-all zero [] h = refl
-take-all zero (x ∷ xs) h = absurd (not-suc-le-zero h)
-take-all (suc n) [] h = refl
-take-all (suc n) (x ∷ xs) h = ap (λ (r : List ℕ). x ∷ r) (take-all n xs (le-of-suc-le-suc h))
 
 overlong : (s : List ℕ) → mostScriptBytes < length s → readScript s ≡ bad 0
 unfolding readScript

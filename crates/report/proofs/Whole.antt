@@ -5,6 +5,7 @@ use native.Mathlib.Omega.{arith}
 use mathlib.Core.Bool.{Bool, cond}
 use mathlib.Core.List.{List, [], _∷_, _++_}
 use lib.ListN.{length, getD, drop, replicate, length-append, length-replicate}
+use lib.Seq.{take-all}
 use borrow.Author.Tests.{le-leb}
 use Rattle.answer.specs.Numbers.{numberOf}
 use Rattle.drive.specs.State.{freshDrive}
@@ -15,7 +16,7 @@ use Rattle.script.proofs.Few.{few-events}
 use Rattle.run.specs.declared.Ran.{Ran}
 use Rattle.run.specs.Outcome.{RunOutcome, outcome, outcomeIn, runEvents, runScript}
 use Rattle.reached.proofs.Reaching.{fresh-reached}
-use Rattle.run.proofs.Whole.{all-taken, accepted-is}
+use Rattle.run.proofs.Whole.{accepted-is}
 use Rattle.report.specs.declared.Listed.{Listed}
 use Rattle.report.specs.Lines.{lines, eventLines, driveLines}
 use Rattle.report.specs.Listing.{mostListed, listing, Told, told, toldIn, listOf}
@@ -51,7 +52,7 @@ module _ (s answers stops : List ℕ) (long : mostEvents ≤ length answers) (wi
         (over (stopsIn (freshDrive capacity bands sensors) es) stops)
     whole =
         let few = few-events s capacity bands sensors es q in
-        ap (λ (l : List Event). runEvents (freshDrive capacity bands sensors) l answers stops) (all-taken mostScriptBytes es (omega (arith, few)))
+        ap (λ (l : List Event). runEvents (freshDrive capacity bands sensors) l answers stops) (take-all mostScriptBytes es (omega (arith, few)))
         ∙ rw (le-leb (length es) (length answers) (omega (arith, few, long)), le-leb (length es) (length stops) (omega (arith, few, wide)))
 
     accepted-lines : runLines (runScript (accepted capacity bands sensors es) mostScriptBytes answers stops) ≡ listing (accepted capacity bands sensors es)

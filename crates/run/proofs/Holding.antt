@@ -7,6 +7,7 @@ use mathlib.Core.Bool.{Bool, true, false, cond, _&&_}
 use mathlib.Core.List.{List, [], _∷_, _++_}
 use lib.Dec.{leb}
 use lib.ListN.{length}
+use lib.Seq.{take-all}
 use Rattle.answer.specs.Numbers.{numberOf}
 use Rattle.band.specs.Rows.{lockedOn}
 use Rattle.drive.specs.declared.Drive.{Drive}
@@ -24,7 +25,7 @@ use Rattle.run.specs.declared.Ran.{Ran}
 use Rattle.run.specs.Outcome.{outcome, outcomeIn, refusedRun, runEvents, runScript}
 use Rattle.run.specs.Parts.{fewerOf, Refuses, RunsFirst}
 use Rattle.run.specs.Condition3.{ownAnswers, RanWhole, Condition3OfRun, RunWhole, Condition3OfTwo}
-use Rattle.run.proofs.Whole.{all-taken, accepted-is, bad-script, script-run}
+use Rattle.run.proofs.Whole.{accepted-is, bad-script, script-run}
 
 -- the answers written to a band's Sets are the answers to its Sets
 own-written : (band : ℕ) (d : Drive) (es : List Event) (rest : List ℕ) → ownAnswers band es (along answerOf d es ++ rest) ≡ answersTo band d es
@@ -50,7 +51,7 @@ module _ (s : List ℕ) (most : ℕ) (answers stops : List ℕ) (r : Ran) (answe
       fresh = freshDrive capacity bands sensors
 
       whole : outcomeIn r answers' stops' ≡ runEvents (freshDrive capacity bands sensors) es answers stops
-      whole = o ∙ ap (λ (x : Script). runScript x most answers stops) (w .reads) ∙ ap (λ (l : List Event). runEvents (freshDrive capacity bands sensors) l answers stops) (all-taken most es (w .all))
+      whole = o ∙ ap (λ (x : Script). runScript x most answers stops) (w .reads) ∙ ap (λ (l : List Event). runEvents (freshDrive capacity bands sensors) l answers stops) (take-all most es (w .all))
 
       go : (t : Bool) → outcomeIn r answers' stops' ≡ cond t (outcome 0 0 (length es) (runOf (freshDrive capacity bands sensors) es) (over (answersOf (freshDrive capacity bands sensors) es) answers) (over (stopsIn (freshDrive capacity bands sensors) es) stops)) (refusedRun 11 0 answers stops)
           → Ended r answers answers' (freshDrive capacity bands sensors) es

@@ -5,7 +5,7 @@ use native.Mathlib.Omega.{arith}
 use mathlib.Core.Bool.{Bool, true, false, cond, _&&_}
 use mathlib.Core.List.{List, [], _∷_}
 use lib.Dec.{leb, ltb}
-use lib.ListN.{length, take, getD}
+use lib.ListN.{length, take, getD, length-take}
 use mir.Syntax.{w8}
 use mir.Val.{Fits}
 use Rattle.answer.specs.declared.Answer.{Answer}
@@ -61,11 +61,6 @@ fields-take zero es f = tt
 fields-take (suc n) [] f = tt
 fields-take (suc n) (e ∷ es) f = (f .0, fields-take n es (f .1))
 
-taken-few : {A : Type 0} (n : ℕ) (l : List A) → length (take n l) ≤ length l
-taken-few zero l = omega arith
-taken-few (suc n) [] = omega arith
-taken-few (suc n) (x ∷ l) = omega (arith, taken-few n l)
-
 -- ---- what a run hands back
 
 abbrev ReachedIn : RunOutcome → Type 0
@@ -92,7 +87,7 @@ script-reached s most answers stops b = go (readScript s) refl
         let a = accepted-is s capacity bands sensors es q in
         events-reached capacity bands sensors (take most es) answers stops (a .fits)
         (fields-take most es (events-fields (length s - a .next) s (a .next) es b (a .after)))
-        (omega (arith, taken-few most es, few-events s capacity bands sensors es q))
+        (omega (arith, length-take most es, few-events s capacity bands sensors es q))
 
 -- ---- the arms of the run
 

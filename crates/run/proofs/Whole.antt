@@ -6,6 +6,7 @@ use mathlib.Core.Bool.{Bool, true, false, cond, _&&_}
 use mathlib.Core.List.{List, [], _∷_}
 use lib.Dec.{leb, ltb}
 use lib.ListN.{length, take}
+use lib.Seq.{length-take-le, take-all}
 use borrow.Author.Tests.{lt-ltb, le-ltb, le-leb, lt-leb, ltb-true, ltb-false}
 use Rattle.answer.specs.declared.Answer.{Answer}
 use Rattle.answer.specs.declared.Answer.the-variants.{Done, BadScript, ShortBuffer}
@@ -36,24 +37,13 @@ fewer-asked all most h = rw (lt-ltb most all h)
 pub fewer-all : (all most : ℕ) → all ≤ most → all ≡ fewerOf all most
 fewer-all all most h = rw (le-ltb most all h)
 
-few-taken : {A : Type 0} (n : ℕ) (l : List A) → n ≤ length l → length (take n l) ≡ n
-few-taken zero l h = refl
-few-taken (suc n) [] h = absurd (omega (arith, h))
-few-taken (suc n) (x ∷ l) h = ap suc (few-taken n l (omega (arith, h)))
-
-pub all-taken : {A : Type 0} (n : ℕ) (l : List A) → length l ≤ n → take n l ≡ l
-all-taken zero [] h = refl
-all-taken zero (x ∷ l) h = absurd (omega (arith, h))
-all-taken (suc n) [] h = refl
-all-taken (suc n) (x ∷ l) h = ap (λ r. x ∷ r) (all-taken n l (omega (arith, h)))
-
 -- asking for more than there are is asking for all
 fewer-taken : {A : Type 0} (most : ℕ) (l : List A) → (fewerOf (length l) most ≤ length l) × (take (fewerOf (length l) most) l ≡ take most l)
 fewer-taken most l = go (ltb most (length l)) refl
   where
     go : (t : Bool) → ltb most (length l) ≡ t → (cond t most (length l) ≤ length l) × (take (cond t most (length l)) l ≡ take most l)
     go true p = let h = ltb-true most (length l) p in (omega (arith, h), refl)
-    go false p = let h = ltb-false most (length l) p in (omega arith, all-taken (length l) l (omega arith) ∙ sym (all-taken most l (omega (arith, h))))
+    go false p = let h = ltb-false most (length l) p in (omega arith, take-all (length l) l (omega arith) ∙ sym (take-all most l (omega (arith, h))))
 
 -- ---- a refused run
 
@@ -121,13 +111,13 @@ module _ (s : List ℕ) (count : ℕ) (answers stops : List ℕ) where
 
   pub short-answers : (r : Ran) → length answers < count → Refuses ShortBuffer 0 r → RunsFirst s count answers stops r answers stops
   short-answers r h p capacity bands sensors es q k =
-      let n = few-taken count es k in
+      let n = length-take-le count es k in
       refused-is ShortBuffer 0 r answers stops p
       ∙ rw (n, lt-leb count (length answers) h)
 
   pub short-stops : (r : Ran) → count ≤ length answers → length stops < count → Refuses ShortBuffer 0 r → RunsFirst s count answers stops r answers stops
   short-stops r j h p capacity bands sensors es q k =
-      let n = few-taken count es k in
+      let n = length-take-le count es k in
       refused-is ShortBuffer 0 r answers stops p
       ∙ rw (n, le-leb count (length answers) j, lt-leb count (length stops) h)
 
@@ -151,7 +141,7 @@ module _ (s : List ℕ) (count : ℕ) (answers stops : List ℕ) where
       let d : freshOf x y z ≡ freshDrive capacity bands sensors = rw (ex, ey, ez, a .fits) in
       let f : firstEvents count s at ≡ take count es = taken count s at es (ap (λ (n : ℕ). eventsFrom s n) (sym en) ∙ a .after) in
       let v : after drive answers' stops' ≡ eventsRun (freshDrive capacity bands sensors) (take count es) answers stops = g ∙ rw (le-leb count (length answers) i, le-leb count (length stops) j, d, f) in
-      let n = few-taken count es k in
+      let n = length-take-le count es k in
       let b = both (take count es) (omega (arith, n, i)) (omega (arith, n, j)) in
       let vd : drive ≡ runOf (freshDrive capacity bands sensors) (take count es) = cc in
       let va : answers' ≡ over (answersOf (freshDrive capacity bands sensors) (take count es)) answers = cc in
