@@ -156,7 +156,7 @@ then-is room bytes (Is p) es k all q h =
     before-is bytes p (readElements room (drop (widthOf p) bytes)) es (head-is bytes p k q)
     (λ fs e. all (drop (widthOf p) bytes) fs (bytes-drop bytes (widthOf p) k) e)
     h
-then-is room bytes Broken es k all q h = not-refused 3 es h
+then-is room bytes Broken es k all q h = not-refused _ es h
 
 body-is : (room : ℕ) (bytes : List ℕ) (es : List Element) → Bytes bytes → readElements room bytes ≡ elements es → bodyOf es ≡ bytes
 unfolding readElements

@@ -81,7 +81,7 @@ then-fits : (room : ℕ) (bytes : List ℕ) (head : Head) (es : List Element) �
 then-fits room bytes (Is p) es k all q h =
     let rest = drop (widthOf p) bytes in
     before-fits room p (readElements room rest) es (part-fits bytes p k q) (λ fs e. all rest fs (bytes-drop bytes (widthOf p) k) e) h
-then-fits room bytes Broken es k all q h = not-refused 3 es h
+then-fits room bytes Broken es k all q h = not-refused _ es h
 
 elements-fit : (room : ℕ) (bytes : List ℕ) (es : List Element) → Bytes bytes → readElements room bytes ≡ elements es → Fits room es
 unfolding readElements
