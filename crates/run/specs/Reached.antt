@@ -1,5 +1,5 @@
 -- What holds of everything that a run hands back, of a refused one too.
-use Prim.Native.Nat.{ℕ, suc, _≤_}
+use Prim.Native.Nat.{_≤_}
 use Rattle.reached.specs.Reached.{Reached}
 use Rattle.script.specs.Whole.{mostEvents}
 use Rattle.run.specs.declared.Ran.{Ran}
