@@ -6,7 +6,7 @@ use native.Mathlib.Omega.{arith}
 use mathlib.Core.Bool.{Bool, true, false, cond}
 use mathlib.Core.List.{List, [], _++_}
 use lib.Dec.{eqb, leb}
-use lib.ListN.{length, getD, take, replicate, length-append, length-map, length-replicate, List·getD-eq-default}
+use lib.ListN.{length, getD, take, drop, replicate, length-append, length-map, length-replicate, List·getD-eq-default}
 use lib.Seq.{take-append-seam}
 use borrow.Author.Tests.{le-leb, lt-leb, eq-eqb, ne-eqb}
 use Rattle.answer.specs.Numbers.{numberOf}
@@ -14,13 +14,13 @@ use Rattle.sensor_set.specs.declared.SensorColumns.{SensorColumns}
 use Rattle.band_columns.specs.declared.BandColumns.{BandColumns}
 use Rattle.expression.specs.declared.Element.{Element}
 use Rattle.expression.specs.declared.Expression.{Expression}
-use Rattle.expression.specs.Elements.{blank}
+use Rattle.expression.specs.Elements.{blank, elementsIn}
 use Rattle.token_reader.specs.declared.Tokens.{Tokens}
-use Rattle.token_reader.specs.Read.{elements, refusal, answerIn, expressionIn, Tells}
-use Rattle.token_reader.specs.Read.{TokenOutcome}
+use Rattle.token_reader.specs.Format.{bytesOf}
+use Rattle.token_reader.specs.Read.{TokenOutcome, elements, refusal, answerIn, expressionIn, Tells, WrittenAgain}
 use Rattle.token_writer.specs.declared.Written.{Written}
-use Rattle.token_writer.specs.Write.{codesOf, Writes}
-use Rattle.token_writer.proofs.Arms.{codes-taken}
+use Rattle.token_writer.specs.Write.{elementsOf, codesOf, Writes, ReadsBack}
+use Rattle.token_writer.proofs.Arms.{codes-taken, elements-taken}
 use Rattle.drive.specs.declared.Fresh.{Fresh}
 use Rattle.drive.specs.declared.Drive.{Drive}
 use Rattle.drive.specs.declared.Kind.{Kind}
@@ -42,6 +42,8 @@ use Rattle.api.specs.Exports.{
   runTold,
   readInto,
   writeInto,
+  ReadsBackTo,
+  WrittenAgainFrom,
   FreshTold,
   freshTo,
   freshTold,
@@ -85,6 +87,14 @@ module _ (former : ℕ) (codes lent after : List ℕ) (r : Written) (number : �
 
   pub write-told : number ≡ 0 → told number (r .count) after ≡ leaving former (writeInto codes lent)
   write-told = noted former number (r .count) after (writeInto codes lent) wrote
+
+-- what is written reads back; nothing is said of a refusal
+pub refused-back : (codes after : List ℕ) (number count : ℕ) → number ≢ 0 → ReadsBackTo codes number count after
+refused-back codes after number count q z = absurd (q z)
+
+pub write-back : (codes after : List ℕ) (r : Written) (number : ℕ) → number ≡ numberOf (r .answer) → ReadsBack (elementsOf codes) r after
+    → ReadsBackTo codes number (r .count) after
+write-back codes after r number e b z = b (sym e ∙ z)
 
 -- numbers that are handed over, or do not fit
 module _ (former : ℕ) (codes lent : List ℕ) where
@@ -173,6 +183,32 @@ module _ (r : Tokens) (codes : List ℕ) (c : codes ≡ codesOf (r .expression .
       go (refusal m) a k n =
           let q : listOf [] lent ≡ told 0 0 lent = rw (le-leb 0 (length lent) (omega arith)) in
           ap (λ (i : ℕ). listOf (take i codes) lent) n ∙ q ∙ ap (λ (k : ℕ). told k 0 lent) a
+
+-- what is read has the bytes that were read
+
+-- an output that is told to hold a list holds it from its start
+handed-first : (former : ℕ) (list lent after : List ℕ) (answer count : ℕ) → told answer count after ≡ leaving former (listOf list lent) → answer ≡ 0
+    → take count after ≡ list
+handed-first former list lent after answer count w z = go (leb (length list) (length lent)) w
+  where
+    go : (b : Bool) → told answer count after ≡ leaving former (cond b (told 0 (length list) (over list lent)) (told 11 0 lent)) → take count after ≡ list
+    go true w =
+        let c : count ≡ length list = cc in
+        let a : after ≡ over list lent = cc in
+        rw (c, a) (take-append-seam list (drop (length list) lent))
+    go false w = let q : answer ≡ 11 = cc in absurd (omega arith)
+
+pub refused-again : (bytes : List ℕ) (number count : ℕ) (after : List ℕ) → number ≢ 0 → WrittenAgainFrom bytes number count after
+refused-again bytes number count after q z = absurd (q z)
+
+pub read-again : (bytes : List ℕ) (r : Tokens) (codes lent after : List ℕ) (former number count answer : ℕ) → elementsOf codes ≡ r .expression .elements
+    → number ≡ numberOf (r .answer) → number ≡ 0 → WrittenAgain bytes r → told answer count after ≡ leaving former (listOf (take (r .expression .count) codes) lent)
+    → WrittenAgainFrom bytes answer count after
+read-again bytes r codes lent after former number count answer e n z b w q =
+    let t : take count after ≡ take (r .expression .count) codes = handed-first former (take (r .expression .count) codes) lent after answer count w q in
+    let f : elementsOf (take count after) ≡ elementsIn (r .expression) =
+    ap elementsOf t ∙ elements-taken codes (r .expression .count) ∙ ap (take (r .expression .count)) e in
+    ap bytesOf f ∙ b (sym n ∙ z)
 
 -- ---- one event
 

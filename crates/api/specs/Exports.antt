@@ -5,11 +5,11 @@ use mathlib.Core.Path.{_≡_}
 use mathlib.Core.Bool.{true, cond, _&&_}
 use mathlib.Core.List.{List}
 use lib.Dec.{eqb, leb}
-use lib.ListN.{length, getD}
+use lib.ListN.{length, getD, take}
 use Rattle.base.specs.Refusals.{applying}
 use Rattle.sensor_set.specs.declared.SensorColumns.{SensorColumns}
 use Rattle.token_reader.specs.Format.{bytesOf}
-use Rattle.token_reader.specs.Read.{TokenOutcome, elements, refusal}
+use Rattle.token_reader.specs.Read.{TokenOutcome, elements, refusal, readTokens}
 use Rattle.token_writer.specs.Write.{codesOf, elementsOf, writeAnswer, writtenAfter, outputAfter}
 use Rattle.band_columns.specs.declared.BandColumns.{BandColumns}
 use Rattle.drive.specs.declared.Drive.{Drive}
@@ -51,6 +51,14 @@ abbrev pub writeInto : List ℕ → List ℕ → Told
 writeInto codes lent =
     let answer = writeAnswer codes (length lent) in
     told answer (writtenAfter answer (bytesOf (elementsOf codes))) (outputAfter answer (bytesOf (elementsOf codes)) lent)
+
+-- "An expression written as tokens reads back as itself": where 0 is returned, so many bytes of the output read to the elements
+abbrev pub ReadsBackTo : List ℕ → ℕ → ℕ → List ℕ → Type 0
+ReadsBackTo codes answer count after = answer ≡ 0 → readTokens (take count after) ≡ elements (elementsOf codes)
+
+-- "and tokens that are accepted are written again as the same bytes": where 0 is returned, these are the bytes of so many elements of the output
+abbrev pub WrittenAgainFrom : List ℕ → ℕ → ℕ → List ℕ → Type 0
+WrittenAgainFrom bytes answer count after = answer ≡ 0 → bytesOf (elementsOf (take count after)) ≡ bytes
 
 -- a fresh drive: answer, capacity, bands and sensors. "A call that gives, outside a script, a header out of range .. gets 2; the fresh
 -- call then hands back a fresh drive of capacity 1, one band and no sensors."

@@ -15,6 +15,8 @@ ghost use Rattle.api.specs.Exports.{
   runTold,
   readInto,
   writeInto,
+  ReadsBackTo,
+  WrittenAgainFrom,
   freshTo,
   freshTold,
   sensorColumns,
@@ -114,6 +116,7 @@ fn hand(codes: &[u64], out: &mut [u64], count: &mut usize) -> u8
 #[no_mangle]
 pub extern "C" fn tokens_read(bytes: &[u8], out: &mut [u64], count: &mut usize) -> u8
     ensures { λ r. ⌜ told r (now (count .exit)) (now (out .exit)) ≡ leaving (now (count .entry)) (readInto (readTokens (now (bytes .entry))) (now (out .entry))) ⌝ }
+    ensures again { λ r. ⌜ WrittenAgainFrom (now (bytes .entry)) r (now (count .exit)) (now (out .exit)) ⌝ }
 {
     let read = token_reader::read(bytes);
     let answer = read.answer;
@@ -133,6 +136,7 @@ pub extern "C" fn tokens_read(bytes: &[u8], out: &mut [u64], count: &mut usize) 
 #[no_mangle]
 pub extern "C" fn tokens_write(codes: &[u64], out: &mut [u8], count: &mut usize) -> u8
     ensures { λ r. ⌜ told r (now (count .exit)) (now (out .exit)) ≡ leaving (now (count .entry)) (writeInto (now (codes .entry)) (now (out .entry))) ⌝ }
+    ensures back { λ r. ⌜ ReadsBackTo (now (codes .entry)) r (now (count .exit)) (now (out .exit)) ⌝ }
 {
     let written = token_writer::write(codes, out);
     let answer = written.answer;

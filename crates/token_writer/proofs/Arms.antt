@@ -136,7 +136,7 @@ codes-taken [] (suc n) = refl
 codes-taken (e ∷ es) (suc n) = ap (λ (r : List ℕ). codeOf (e .part) ∷ r) (codes-taken es n)
 
 -- the elements of the first numbers are the first elements
-elements-taken : (codes : List ℕ) (n : ℕ) → elementsOf (take n codes) ≡ take n (elementsOf codes)
+pub elements-taken : (codes : List ℕ) (n : ℕ) → elementsOf (take n codes) ≡ take n (elementsOf codes)
 elements-taken codes zero = refl
 elements-taken [] (suc n) = refl
 elements-taken (k ∷ codes) (suc n) = ap {B = List Element} (λ r. element (partOf k) ∷ r) (elements-taken codes n)

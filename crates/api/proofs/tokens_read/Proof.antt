@@ -1,4 +1,4 @@
-use Rattle.api.proofs.Telling.{read-refused, few-read, read-told}
+use Rattle.api.proofs.Telling.{read-refused, refused-again, few-read, read-told, read-again}
 use lib.Seq.{length-take-le}
 use borrow.Author.Needs.{needs}
 use Rattle.api.proofs.tokens_read.Statement.{statement}
@@ -11,7 +11,7 @@ number-requires : tie.Need-number-requires
 number-requires c κs = search needs
 
 returns : tie.Need-returns
-returns c = search (read-refused, needs)
+returns c = search (read-refused, refused-again, needs)
 
 codes-requires : tie.Need-codes-requires
 codes-requires c κs = search needs
@@ -29,7 +29,7 @@ same-length : tie.Need-same-length
 same-length c = search needs
 
 returns-2 : tie.Need-returns-2
-returns-2 c = search (read-told, needs)
+returns-2 c = search (read-told, read-again, needs)
 
 pub tokens-read-spec : {M : Type 1} → statement M
 tokens-read-spec =

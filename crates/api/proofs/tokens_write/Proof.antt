@@ -1,4 +1,4 @@
-use Rattle.api.proofs.Telling.{write-refused, write-told}
+use Rattle.api.proofs.Telling.{write-refused, write-told, refused-back, write-back}
 use borrow.Author.Needs.{needs}
 use Rattle.api.proofs.tokens_write.Statement.{statement}
 use Rattle.api.proofs.tokens_write.Tie as tie
@@ -13,13 +13,13 @@ same-length : tie.Need-same-length
 same-length c = search needs
 
 returns : tie.Need-returns
-returns c = search (write-refused, needs)
+returns c = search (write-refused, refused-back, needs)
 
 same-length-2 : tie.Need-same-length-2
 same-length-2 c = search needs
 
 returns-2 : tie.Need-returns-2
-returns-2 c = search (write-told, needs)
+returns-2 c = search (write-told, write-back, needs)
 
 pub tokens-write-spec : {M : Type 1} → statement M
 tokens-write-spec = tie.close (tie.spec write-requires number-requires same-length returns same-length-2 returns-2)
