@@ -107,7 +107,10 @@ fn goes_on() -> bool {
 }
 
 // Prints how many cases an input holds, and complains of what is left over: bytes after the last whole case, and bytes that were not read.
-pub fn print_end(program: &[u8], input: &[u8]) {
+// It hands back what it printed of the input.
+pub fn print_end(program: &[u8], input: &[u8]) -> Counted
+    ensures { λ r. ⌜ (r .count ≡ caseCount (now (input .entry))) × (r .left ≡ leftOver (now (input .entry))) ⌝ }
+{
     let held = held(input);
     io::print_decimal(1, held.count as u64);
     io::write_all(1, b" cases\n");
@@ -125,4 +128,5 @@ pub fn print_end(program: &[u8], input: &[u8]) {
             b" bytes were read, and the input goes on\n",
         );
     }
+    held
 }

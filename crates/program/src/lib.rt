@@ -7,7 +7,7 @@ ghost use lib.Dec.{eqb};
 ghost use lib.ListN.{length, take};
 ghost use Rattle.io.specs.Counts.{Counts, clamped};
 ghost use Rattle.report.specs.Listing.{mostListed};
-ghost use Rattle.program.specs.Input.{mostRead, isFailure, Lists};
+ghost use Rattle.program.specs.Input.{mostRead, isFailure, Lists, Prints, EndsSo};
 
 // One byte more than a script may have: so many bytes of an input show whether it is too long.
 pub const MOST_INPUT: usize = script::MOST_BYTES + 1;
@@ -17,6 +17,13 @@ struct Input {
     ended: bool,
     failed: bool,
     length: usize,
+}
+
+// What the program came to: whether a read failed, how many bytes were read, and how many were handed to standard output.
+pub struct Ended {
+    pub failed: bool,
+    pub read: usize,
+    pub written: usize,
 }
 
 // What one read came to, by the number that `read` answered. A read that fails counts no byte.
@@ -103,29 +110,44 @@ fn complain(text: &[u8]) {
     io::write_all(libc::STDERR_FILENO, text);
 }
 
-// Prints the listing of an input by way of a page that every listing fits.
-fn print_by(page: &mut [u8], input: &[u8])
+// Prints the listing of an input by way of a page that every listing fits, and answers how many bytes it has.
+fn print_by(page: &mut [u8], input: &[u8]) -> usize
     requires { ⌜ mostListed ≤ length (now page) ⌝ }
+    ensures { λ r. ⌜ Prints (now (input .entry)) r ⌝ }
 {
     let length = list(input, page);
     let text = report::first(page, length);
     if !io::write_all(libc::STDOUT_FILENO, text) {
         complain(b"listing: standard output cannot be written\n");
     }
+    text.len()
 }
 
-fn print_listing(input: &[u8]) {
+fn print_listing(input: &[u8]) -> usize
+    ensures { λ r. ⌜ Prints (now (input .entry)) r ⌝ }
+{
     let mut page = blank_page();
-    print_by(&mut page, input);
+    print_by(&mut page, input)
 }
 
 // Reads a script from standard input and prints its listing. Where the input cannot be read it prints none, and complains.
-pub fn run() {
+pub fn run() -> Ended
+    ensures { λ r. ⌜ EndsSo r ⌝ }
+{
     let mut space = blank_input();
     let input = read_all(&mut space);
     if input.failed {
         complain(b"listing: standard input cannot be read\n");
-        return;
+        return Ended {
+            failed: true,
+            read: input.length,
+            written: 0,
+        };
     }
-    print_listing(&space[..input.length]);
+    let written = print_listing(&space[..input.length]);
+    Ended {
+        failed: false,
+        read: input.length,
+        written,
+    }
 }
