@@ -15,8 +15,8 @@ use Rattle.geometry.specs.declared.Span.{Span}
 use Rattle.geometry.specs.declared.Placed.{Placed}
 use Rattle.geometry.specs.Blocks.{bandSpans, overlapping}
 use Rattle.geometry.specs.Events.{pastEnd, transferAnswer, placed, placeAnswer, Places, LockedTransfer, Allowed, OverlapRefused}
-use Rattle.geometry.proofs.Ranges.{any-there, any-at}
-use Rattle.geometry.proofs.Sharing.{shared-there, shared-at}
+use Rattle.geometry.proofs.Ranges.{any-block}
+use Rattle.geometry.proofs.Sharing.{shared-block}
 use Rattle.base.proofs.Rows.{row-is}
 use Rattle.geometry.proofs.Arms.{up-to-end, end-up-to, placing}
 
@@ -45,7 +45,7 @@ module _ (capacity bands : ℕ) (spans : List Span) (closed : List Bool) (start 
       record {
         begins = b .0;
         ends = b .1;
-        touched = any-there _ _ _ (not-second _ _ _ _ (a .1) (λ q. omega arith) .0);
+        touched = any-block _ _ _ .0 (not-second _ _ _ _ (a .1) (λ q. omega arith) .0);
       }
 
   locked-at : LockedTransfer capacity bands spans closed start count → transferAnswer capacity bands spans closed start count ≡ 9
@@ -53,7 +53,7 @@ module _ (capacity bands : ℕ) (spans : List Span) (closed : List Bool) (start 
   locked-at r =
       sym
       (cond-false _ _ _ _ (up-to-end _ _ _ (r .begins) (r .ends))
-      (cond-true _ _ _ _ (any-at _ _ _ _ (r .touched .after) (r .touched .short) (r .touched .holds)) refl))
+      (cond-true _ _ _ _ (any-block _ _ _ .1 (r .touched)) refl))
 
   -- P10: both promises of a transfer
   pub and-locked : (r : Answer) → numberOf r ≡ transferAnswer capacity bands spans closed start count
@@ -79,10 +79,10 @@ module _ (capacity bands : ℕ) (spans : List Span) (band start length : ℕ) wh
   overlap-there : placeAnswer capacity bands spans band start length ≡ 7 → OverlapRefused capacity bands spans band start length
   overlap-there e =
       let p = passed 7 e (λ q. omega arith) (λ q. omega arith) (λ q. omega arith) in
-      record { allowed = p .0; shared = shared-there _ _ (not-second _ _ _ _ (p .1) (λ q. omega arith) .0) }
+      record { allowed = p .0; shared = shared-block _ _ .0 (not-second _ _ _ _ (p .1) (λ q. omega arith) .0) }
 
   overlap-at : OverlapRefused capacity bands spans band start length → placeAnswer capacity bands spans band start length ≡ 7
-  overlap-at r = placing capacity bands spans band start length (r .allowed) ∙ sym (cond-true _ _ _ _ (shared-at _ _ (r .shared)) refl)
+  overlap-at r = placing capacity bands spans band start length (r .allowed) ∙ sym (cond-true _ _ _ _ (shared-block _ _ .1 (r .shared)) refl)
 
   -- P11: both promises of a geometry
   pub and-overlap : (r : Placed) → Places capacity bands spans band start length r
