@@ -1,6 +1,6 @@
 -- How many cases there are: the loop that counts them, and that it stops where none is whole.
 use mathlib.Core.Path.{_≡_, refl, sym, ap, ap₂, _∙_}
-use mathlib.Core.Bool.{Bool, true, false, cond}
+use mathlib.Core.Bool.{Bool, true, false}
 use Prim.Native.Nat.{ℕ, zero, suc, _+_, _-_, _≤_, _<_}
 use native.Mathlib.Nat.{not-suc-le-zero}
 use native.Mathlib.Omega.{arith}
@@ -68,22 +68,8 @@ module _ (s : List ℕ) (at count : ℕ) (test : Bool) (e : test ≡ wholeAt s a
       let k : count ≡ caseCount s = omega (arith, none-more s (length s - count) at (sym e ∙ t), c .same) in
       (k, ap (λ (p : ℕ). length s - p) (sym (c .place) ∙ ap (λ (n : ℕ). casePlace s n 0) k))
 
--- ---- the count stops where no case is whole
-
-stops-by : (s : List ℕ) (most at : ℕ) → length s ≤ at + suc most → (t : Bool) → wholeAt s at ≡ t
-    → ((next : ℕ) → length s ≤ next + most → wholeAt s (casePlace s (countFrom s most next) next) ≡ false)
-    → wholeAt s (casePlace s (cond t (suc (countFrom s most (nextAt s at))) 0) at) ≡ false
-unfolding casePlace
-stops-by s most at h true q follow = let w = whole-next s at q in follow (nextAt s at) (omega (arith, h, w .0))
-stops-by s most at h false q follow = q
-
-stops : (s : List ℕ) (most at : ℕ) → length s ≤ at + most → wholeAt s (casePlace s (countFrom s most at) at) ≡ false
-unfolding countFrom casePlace
-stops s zero at h = lt-leb (at + 4 + sizeAt s at) (length s) (omega (arith, h))
-stops s (suc most) at h = stops-by s most at h (wholeAt s at) refl (λ next k. stops s most next k)
-
-pub none-after : (s : List ℕ) → wholeAt s (casePlace s (caseCount s) 0) ≡ false
-none-after s = stops s (length s) 0 (omega arith)
+  pub count-all : Counting s at count → test ≡ false → wholeAt s (casePlace s count 0) ≡ false
+  count-all c t = ap (wholeAt s) (c .place) ∙ sym e ∙ t
 
 -- ---- whether a case is whole, as the code tests it
 

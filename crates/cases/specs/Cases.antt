@@ -34,7 +34,7 @@ unfoldable pub countFrom : List ℕ → ℕ → ℕ → ℕ
 countFrom s zero at = 0
 countFrom s (suc most) at = cond (wholeAt s at) (suc (countFrom s most (nextAt s at))) 0
 
--- the whole cases of the data, up to the first that is not whole (theorem `none-after`): it has no more cases than bytes
+-- the whole cases of the data, up to the first that is not whole (the clause `all` of `held`): it has no more cases than bytes
 abbrev pub caseCount : List ℕ → ℕ
 caseCount s = countFrom s (length s) 0
 

@@ -1,5 +1,6 @@
 // The cases of a test program's input, each after its length in four bytes, low first.
 ghost use mathlib.Core.Path.{_≡_};
+ghost use mathlib.Core.Bool.{false};
 ghost use Prim.Native.Nat.{_+_, _*_, _≤_};
 ghost use lib.ListN.{length};
 ghost use Rattle.cases.specs.Cases.{sizeAt, wholeAt, nextAt, casePlace, caseOf, caseCount, leftOver};
@@ -79,6 +80,7 @@ pub struct Counted {
 
 pub fn held(input: &[u8]) -> Counted
     ensures { λ r. ⌜ (r .count ≡ caseCount (now (input .entry))) × (r .left ≡ leftOver (now (input .entry))) ⌝ }
+    ensures all { λ r. ⌜ wholeAt (now (input .entry)) (casePlace (now (input .entry)) (r .count) 0) ≡ false ⌝ }
 {
     let mut at = 0;
     let mut count = 0;

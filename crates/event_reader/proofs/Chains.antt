@@ -20,7 +20,7 @@ use Rattle.event_reader.specs.declared.FirstColumns.the-variants as F
 use Rattle.event_reader.specs.declared.BytesRead.{BytesRead}
 use Rattle.event_reader.specs.declared.BytesRead.the-variants as P
 use Rattle.event_reader.proofs.Bounds.{NumberIn, number-here}
-use Rattle.event_reader.specs.Fields.{Parsed, plain, broken, field, Follow, Five, five, noFive, fieldFive, fields, firstColumnsAt, Stretch, stretch, cut, fieldTokens, tokensAt, columnAt, stretchAt, expressionAt, geometryAt, transferAt, KindAt, kinds, among, ofKind, eventAt}
+use Rattle.event_reader.specs.Fields.{Parsed, plain, broken, field, Follow, Five, noFive, fieldFive, fields, Stretch, stretch, cut, fieldTokens, tokensAt, columnAt, stretchAt, expressionAt, geometryAt, transferAt, KindAt, kinds, among, ofKind, eventAt}
 use Rattle.event_reader.specs.Parts.{firstColumnsIn, bytesReadIn}
 
 -- a field that does not read, of an event and of the five columns

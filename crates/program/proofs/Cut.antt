@@ -9,7 +9,7 @@ use lib.ListN.{length, take, drop, length-take}
 use lib.Seq.{take-all, take-append-seam}
 use borrow.Author.Tests.{lt-ltb, ltb-true, ltb-false, le-leb}
 use Rattle.script.specs.Whole.{readScript, bad, mostScriptBytes}
-use Rattle.report.specs.Listing.{listing, mostListed, Told, told, listOf}
+use Rattle.report.specs.Listing.{listing, mostListed, told, listOf}
 use Rattle.report.proofs.Short.{never-short}
 use Rattle.program.specs.Input.{mostRead, Lists}
 

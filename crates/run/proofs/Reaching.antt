@@ -12,9 +12,8 @@ use Rattle.answer.specs.declared.Answer.{Answer}
 use Rattle.base.proofs.Cases.{cond-both}
 use Rattle.base.specs.Lists.{Bytes}
 use Rattle.base.proofs.Bytes.{bytes-drop, bytes-take}
-use Rattle.drive.specs.declared.Drive.{Drive}
 use Rattle.drive.specs.State.{headerFits, freshDrive}
-use Rattle.drive.specs.Events.{Event, runOf}
+use Rattle.drive.specs.Events.{Event}
 use Rattle.reached.specs.Reached.{Reached, AllFields}
 use Rattle.reached.proofs.Reaching.{fresh-reached, run-reached}
 use Rattle.event_reader.specs.Fields.{Parsed, event, broken, tokensAt, eventAt}
@@ -27,7 +26,7 @@ use Rattle.script.specs.Whole.{mostEvents, Script, accepted, bad, readScript, c
 use Rattle.script.proofs.Few.{few-events}
 use Rattle.run.specs.declared.Ran.{Ran}
 use Rattle.run.specs.Reached.{RunReaches}
-use Rattle.run.specs.Outcome.{RunOutcome, outcome, outcomeIn, runEvents, runScript}
+use Rattle.run.specs.Outcome.{RunOutcome, outcome, runEvents, runScript}
 use Rattle.run.specs.Parts.{fewerOf, Refuses, RunsFirst}
 use Rattle.run.proofs.Whole.{accepted-is, script-run}
 

@@ -25,7 +25,7 @@ use Rattle.phases.specs.declared.Cause.the-variants.{
 use Rattle.sensor.specs.declared.single.Sensor.{Sensor}
 use Rattle.phases.specs.Phases.{isEnabled, whenEnabled, whenDisabled, powerCycled, conditionIn, moveOf, settled, levelAfter}
 use Rattle.sensor.specs.Single.{freshSensor, moved, movedBy, withLevel, withTimer, afterCause, timerIn, turnCause, turnedTo, enableOf, sensorTick, powerCycleOf}
-use Rattle.sensor.specs.Turning.{timeoutTo, waitingAt, settledAt, Turns, Turning}
+use Rattle.sensor.specs.Turning.{timeoutTo, waitingAt, settledAt, Turning}
 use Rattle.sensor.specs.Parts.{loweredBy}
 
 settled-off : (p : Phase) (s : Sensor) → timerIn (settled p) s ≡ 0

@@ -1,5 +1,5 @@
 // Runs the scripts of standard input, each after its length in four bytes, low first, and prints for each a line with its number and then its
-// listing as document 01 has it; at the end, how many there were. 400 scripts, well formed and damaged, and 94 at the limits of the format.
+// listing as document 01 has it; at the end, how many there were. 400 scripts, well formed and damaged, 94 at the limits of the format, and one of the most events.
 ghost use mathlib.Core.Path.{_≡_};
 ghost use lib.ListN.{length};
 

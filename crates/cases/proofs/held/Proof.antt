@@ -1,7 +1,7 @@
 use Prim.Native.Nat.{_-_}
 use lib.ListN.{length}
 use borrow.Author.Needs.{needs}
-use Rattle.cases.proofs.Counting.{Counting, count-begin, count-again, count-less, count-end}
+use Rattle.cases.proofs.Counting.{Counting, count-begin, count-again, count-less, count-end, count-all}
 use Rattle.cases.proofs.held.Statement.{statement}
 use Rattle.cases.proofs.held.Tie as tie
 
@@ -33,7 +33,9 @@ sub-t6 : tie.Need-sub-t6 Inv-loop μ-loop
 sub-t6 c = search needs
 
 returns : tie.Need-returns Inv-loop μ-loop
-returns c = count-end _ _ _ _ (c .before .whole-at .ensures) (search needs) (c .if1 .left)
+returns c =
+    (count-end _ _ _ _ (c .before .whole-at .ensures) (search needs) (c .if1 .left),
+    search (count-all, c .if1 .left))
 
 pub held-spec : {M : Type 1} → statement M
 held-spec =

@@ -1,4 +1,4 @@
-//! The exported functions against the native engine, on scripts and calls made at random, the same at every run. SCRIPTS in the
+//! The exported functions and the program against the native engine, on scripts and calls made at random, the same at every run. SCRIPTS in the
 //! environment says how many scripts, 10,000 where it is not set. What was reached is counted and printed, and a test fails where an
 //! answer, a move of a phase or a kind of damage was not.
 #[cfg(no_library)]
@@ -6,6 +6,7 @@ compile_error!("target/staticlib/libapi.a is missing: build it with `rt staticli
 
 mod coverage;
 mod library;
+mod program;
 mod random;
 mod scripts;
 mod tokens;
@@ -110,6 +111,7 @@ fn compare(r: &mut Random, lister: &mut Lister, script: &[u8], reached: &mut Cov
     let expected = Listing::of(lister, script);
     let slack = r.below(3) as usize * 7;
     compare_list(script, &expected, slack);
+    assert!(program::listed(script) == expected.text, "the program on script {script:02x?}");
     compare_run(r, script, &expected, reached);
     reached.listing(&expected.answers, &expected.stops, expected.bad);
     expected
