@@ -33,9 +33,10 @@ sub-t6 : tie.Need-sub-t6 Inv-loop μ-loop
 sub-t6 c = search needs
 
 returns : tie.Need-returns Inv-loop μ-loop
-returns c =
-    (count-end _ _ _ _ (c .before .whole-at .ensures) (search needs) (c .if1 .left),
-    search (count-all, c .if1 .left))
+returns c = (
+  count-end _ _ _ _ (c .before .whole-at .ensures) (search needs) (c .if1 .left),
+  search (count-all, c .if1 .left),
+)
 
 pub held-spec : {M : Type 1} → statement M
 held-spec =
