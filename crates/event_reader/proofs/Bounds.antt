@@ -8,7 +8,7 @@ use lib.Dec.{eqb, ltb}
 use lib.ListN.{length, drop, drop-of-length-le, length-drop}
 use borrow.Author.Tests.{ltb-true, ltb-false}
 use Rattle.base.proofs.Cases.{cond-both}
-use Rattle.numbers.specs.Groups.{done, badScript, Found, found, none, prefixed, numberFrom, numberAt}
+use Rattle.numbers.specs.Groups.{done, badScript, Found, found, none, prefixed, numberFrom, numberAt, tooGreat}
 
 -- what was found ends between two places
 abbrev pub NumberIn : ℕ → ℕ → Found → Type 0
@@ -19,7 +19,7 @@ NumberIn a z (none answer) = Unit {0}
 
 prefix-from : (a z b : ℕ) (f : Found) → NumberIn a z f → NumberIn a z (prefixed b f)
 prefix-from a z b (found answer v n) h =
-    cond-both (NumberIn a z) (eqb v 0) (none badScript) _ tt (cond-both (NumberIn a z) (ltb (b % 128 + 128 * v) 18446744073709551616) (found answer (b % 128 + 128 * v) n) (none badScript) h tt)
+    cond-both (NumberIn a z) (eqb v 0) (none badScript) _ tt (cond-both (NumberIn a z) (ltb (b % 128 + 128 * v) tooGreat) (found answer (b % 128 + 128 * v) n) (none badScript) h tt)
 prefix-from a z b (none answer) h = tt
 
 number-later : (a b y z : ℕ) (f : Found) → a ≤ b → y ≤ z → NumberIn b y f → NumberIn a z f

@@ -7,7 +7,7 @@ use mathlib.Core.Bool.{Bool, true, false, cond}
 use lib.Dec.{ltb, eqb}
 use borrow.Author.Tests.{ltb-true, eqb-false}
 use Rattle.base.proofs.Cases.{cond-both}
-use Rattle.numbers.specs.Groups.{Found, found, none, done, badScript, prefixed, numberFrom}
+use Rattle.numbers.specs.Groups.{Found, found, none, done, badScript, prefixed, numberFrom, tooGreat}
 use Rattle.numbers.specs.Parts.{groupsFrom}
 
 -- 128 to the power of k + 1
@@ -19,25 +19,25 @@ top (suc k) = 128 * top k
 pub more-is : (b : ℕ) (r : Found) (a v n : ℕ) → prefixed b r ≡ found a v n
     → (w : ℕ) × (r ≡ found a w n) × (0 < w) × (w < 144115188075855872) × (v ≡ b % 128 + 128 * w)
 more-is b (none c) a v n h = let z : _≡_ {A = ℕ} 0 1 = cc in absurd (omega arith)
-more-is b (found c w m) a v n h = go (eqb w 0) refl (ltb (b % 128 + 128 * w) 18446744073709551616) refl h
+more-is b (found c w m) a v n h = go (eqb w 0) refl (ltb (b % 128 + 128 * w) tooGreat) refl h
   where
-    go : (t : Bool) → eqb w 0 ≡ t → (u : Bool) → ltb (b % 128 + 128 * w) 18446744073709551616 ≡ u
+    go : (t : Bool) → eqb w 0 ≡ t → (u : Bool) → ltb (b % 128 + 128 * w) tooGreat ≡ u
         → cond t (none badScript) (cond u (found c (b % 128 + 128 * w) m) (none badScript)) ≡ found a v n
         → (x : ℕ) × (found c w m ≡ found a x n) × (0 < x) × (x < 144115188075855872) × (v ≡ b % 128 + 128 * x)
     go true p u q h = let z : _≡_ {A = ℕ} 0 1 = cc in absurd (omega arith)
-    go false p true q h = (w, cc, go-pos w (eqb-false w 0 p), omega (arith, ltb-true (b % 128 + 128 * w) 18446744073709551616 q), cc)
+    go false p true q h = (w, cc, go-pos w (eqb-false w 0 p), omega (arith, ltb-true (b % 128 + 128 * w) tooGreat q), cc)
       where
         go-pos : (x : ℕ) → (x ≡ 0 → ⊥) → 0 < x
         go-pos zero f = absurd (f refl)
         go-pos (suc x) f = omega arith
     go false p false q h = let z : _≡_ {A = ℕ} 0 1 = cc in absurd (omega arith)
 
-pub below : (at : ℕ) (s : List ℕ) (a v n : ℕ) → numberFrom at s ≡ found a v n → v < 18446744073709551616
+pub below : (at : ℕ) (s : List ℕ) (a v n : ℕ) → numberFrom at s ≡ found a v n → v < tooGreat
 unfolding numberFrom
 below at [] a v n h = let z : _≡_ {A = ℕ} 0 1 = cc in absurd (omega arith)
 below at (b ∷ s) a v n h = go (ltb b 128) refl h
   where
-    go : (t : Bool) → ltb b 128 ≡ t → cond t (found done b (at + 1)) (prefixed b (numberFrom (at + 1) s)) ≡ found a v n → v < 18446744073709551616
+    go : (t : Bool) → ltb b 128 ≡ t → cond t (found done b (at + 1)) (prefixed b (numberFrom (at + 1) s)) ≡ found a v n → v < tooGreat
     go true p h = let e : b ≡ v = cc in let l : b < 128 = ltb-true b 128 p in omega arith
     go false p h = let m = more-is b (numberFrom (at + 1) s) a v n h in omega (arith, m .3, m .4)
 
@@ -82,7 +82,7 @@ Refused (none a) = a ≡ badScript
 prefixed-refused : (b : ℕ) (f : Found) → Refused f → Refused (prefixed b f)
 prefixed-refused b (found a v n) h =
     cond-both Refused (eqb v 0) (none badScript) _ refl
-    (cond-both Refused (ltb (b % 128 + 128 * v) 18446744073709551616) (found a (b % 128 + 128 * v) n) (none badScript) tt refl)
+    (cond-both Refused (ltb (b % 128 + 128 * v) tooGreat) (found a (b % 128 + 128 * v) n) (none badScript) tt refl)
 prefixed-refused b (none a) h = h
 
 pub number-refused : (at : ℕ) (s : List ℕ) → Refused (numberFrom at s)

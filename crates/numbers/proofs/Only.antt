@@ -8,7 +8,7 @@ use lib.Dec.{ltb}
 use lib.ListN.{length}
 use borrow.Author.Tests.{ltb-false, lt-ltb, le-ltb, ne-eqb}
 use Rattle.base.specs.Lists.{Bytes}
-use Rattle.numbers.specs.Groups.{found, done, prefixed, numberFrom, groupsOf, Starts, OneForm}
+use Rattle.numbers.specs.Groups.{found, done, prefixed, numberFrom, groupsOf, Starts, OneForm, tooGreat}
 use Rattle.numbers.proofs.Enough.{top, more-is, below, Refused, number-refused}
 
 starts : (k at : ℕ) (s : List ℕ) (a v n : ℕ) → v < top k → Bytes s → numberFrom at s ≡ found a v n → Starts (suc k) at s v n
@@ -40,7 +40,7 @@ only-its-groups : (at : ℕ) (s : List ℕ) (a v n : ℕ) → Bytes s → number
 unfolding top
 only-its-groups at s a v n f h = starts 9 at s a v n (omega (arith, below at s a v n h)) f h
 
-reads : (k at v : ℕ) (rest : List ℕ) → v < top k → v < 18446744073709551616 → numberFrom at (groupsOf (suc k) v ++ rest) ≡ found done v (at + length (groupsOf (suc k) v))
+reads : (k at v : ℕ) (rest : List ℕ) → v < top k → v < tooGreat → numberFrom at (groupsOf (suc k) v ++ rest) ≡ found done v (at + length (groupsOf (suc k) v))
 unfolding numberFrom groupsOf top
 reads zero at v rest l f = rw (lt-ltb v 128 l, lt-ltb v 128 l)
 reads (suc k) at v rest l f = go (reads k (at + 1) (v / 128) rest (omega (arith, l)) (omega (arith, f))) (ltb v 128) refl
@@ -53,13 +53,13 @@ reads (suc k) at v rest l f = go (reads k (at + 1) (v / 128) rest (omega (arith,
         let high = ltb-false v 128 p in
         let b : ltb (v % 128 + 128) 128 ≡ false = le-ltb (v % 128 + 128) 128 (omega arith) in
         let z = ne-eqb (v / 128) 0 (λ e. omega (arith, e, high)) in
-        let y = lt-ltb ((v % 128 + 128) % 128 + 128 * (v / 128)) 18446744073709551616 (omega (arith, f)) in
+        let y = lt-ltb ((v % 128 + 128) % 128 + 128 * (v / 128)) tooGreat (omega (arith, f)) in
         let w : (v % 128 + 128) % 128 + 128 * (v / 128) ≡ v = omega arith in
         let n : at + 1 + length (groupsOf (suc k) (v / 128)) ≡ at + suc (length (groupsOf (suc k) (v / 128))) = omega arith in
         rw (b, ih, z, y, w, n)
 
 -- a number's groups read to it, whatever follows them
-its-groups-read : (at v : ℕ) (rest : List ℕ) → v < 18446744073709551616
+its-groups-read : (at v : ℕ) (rest : List ℕ) → v < tooGreat
     → numberFrom at (groupsOf 10 v ++ rest) ≡ found done v (at + length (groupsOf 10 v))
 unfolding top
 its-groups-read at v rest f = reads 9 at v rest (omega (arith, f)) f

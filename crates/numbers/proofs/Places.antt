@@ -11,7 +11,7 @@ use lib.Seq.{drop-cons}
 use borrow.Author.Tests.{lt-ltb, le-ltb, eq-eqb, ne-eqb}
 use Rattle.numbers.specs.declared.Number.{Number}
 use Rattle.numbers.specs.declared.Number.the-variants.{Is, Bad}
-use Rattle.numbers.specs.Groups.{found, none, done, badScript, foundIn, prefixed, numberFrom}
+use Rattle.numbers.specs.Groups.{found, none, done, badScript, foundIn, prefixed, numberFrom, tooGreat}
 use Rattle.numbers.specs.Parts.{groupsFrom}
 
 pub none-left : (left at : ℕ) (s : List ℕ) → left ≡ 0 → none badScript ≡ groupsFrom left at s
@@ -82,10 +82,10 @@ module _ (group v next : ℕ) (rest : Number) (e : rest ≡ Is v next) where
   joined-zero z = rw (e, eq-eqb v 0 z)
 
   pub joined-fits : (v ≡ 0 → ⊥) → v < 144115188075855872 → found done (group % 128 + 128 * v) next ≡ prefixed group (foundIn rest)
-  joined-fits n h = rw (e, ne-eqb v 0 n, lt-ltb (group % 128 + 128 * v) 18446744073709551616 (omega (arith, h)))
+  joined-fits n h = rw (e, ne-eqb v 0 n, lt-ltb (group % 128 + 128 * v) tooGreat (omega (arith, h)))
 
   pub joined-large : (v ≡ 0 → ⊥) → 144115188075855872 ≤ v → none badScript ≡ prefixed group (foundIn rest)
-  joined-large n h = rw (e, ne-eqb v 0 n, le-ltb (group % 128 + 128 * v) 18446744073709551616 (omega (arith, h)))
+  joined-large n h = rw (e, ne-eqb v 0 n, le-ltb (group % 128 + 128 * v) tooGreat (omega (arith, h)))
 
 pub joined-bad : (group : ℕ) (rest : Number) → rest ≡ Bad → none badScript ≡ prefixed group (foundIn rest)
 joined-bad group rest e = rw e

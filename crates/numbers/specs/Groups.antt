@@ -28,11 +28,15 @@ abbrev pub foundIn : Number → Found
 foundIn (Is value next) = found 0 value next
 foundIn Bad = none 10
 
+-- "below 2^64"
+abbrev pub tooGreat : ℕ
+tooGreat = 18446744073709551616
+
 -- "Shortest form only": a number in front of which a group stands is not 0. "below 2^64": the whole is.
 abbrev pub prefixed : ℕ → Found → Found
 prefixed group (found answer v next) =
     let whole = group % 128 + 128 * v in
-    cond (eqb v 0) (none badScript) (cond (ltb whole 18446744073709551616) (found answer whole next) (none badScript))
+    cond (eqb v 0) (none badScript) (cond (ltb whole tooGreat) (found answer whole next) (none badScript))
 prefixed group (none answer) = none answer
 
 -- the number that starts the bytes, whose first has the place at; "a cut field" is bad
@@ -62,11 +66,11 @@ Starts k at s v n = (rest : List ℕ) × (s ≡ groupsOf k v ++ rest) × (n ≡ 
 -- of a string of bytes
 pub record OneForm : Type 0 where
   -- the groups of a number below 2^64 read to it, whatever follows them
-  pub its-groups : (at v : ℕ) (rest : List ℕ) → v < 18446744073709551616
+  pub its-groups : (at v : ℕ) (rest : List ℕ) → v < tooGreat
       → numberFrom at (groupsOf 10 v ++ rest) ≡ found done v (at + length (groupsOf 10 v))
   -- and no other bytes do
   pub no-other : (at : ℕ) (s : List ℕ) (answer v n : ℕ) → Bytes s → numberFrom at s ≡ found answer v n → Starts 10 at s v n
   -- a number that is read is below 2^64, and its answer is done
-  pub within : (at : ℕ) (s : List ℕ) (answer v n : ℕ) → numberFrom at s ≡ found answer v n → (v < 18446744073709551616) × (answer ≡ done)
+  pub within : (at : ℕ) (s : List ℕ) (answer v n : ℕ) → numberFrom at s ≡ found answer v n → (v < tooGreat) × (answer ≡ done)
   -- what does not read is bad script
   pub refused : (at : ℕ) (s : List ℕ) (answer : ℕ) → numberFrom at s ≡ none answer → answer ≡ badScript

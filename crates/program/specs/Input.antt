@@ -1,12 +1,12 @@
 -- What the program makes of its input.
-use Prim.Native.Nat.{ℕ, _≤_}
+use Prim.Native.Nat.{ℕ, _+_, _≤_}
 use mathlib.Core.Path.{_≡_}
 use mathlib.Core.Bool.{Bool, true, false}
 use mathlib.Core.List.{List}
 use lib.ListN.{length, take}
 use lib.IntN.{ℤ, pos}
 use lib.Signed.{ltZ}
-use Rattle.script.specs.Whole.{readScript}
+use Rattle.script.specs.Whole.{mostScriptBytes, readScript}
 use Rattle.report.specs.Listing.{listing}
 use Rattle.program.specs.declared.Ended.{Ended}
 
@@ -16,7 +16,7 @@ isFailure got = ltZ got (pos 0)
 
 -- one byte more than a script may have: at most so many bytes of an input are read
 abbrev pub mostRead : ℕ
-mostRead = 65537
+mostRead = mostScriptBytes + 1
 
 -- The text is the listing of every input that starts with the bytes that were read: of those bytes themselves, and of a longer input where
 -- there were as many as are read at most.
