@@ -69,6 +69,11 @@ turn-turns n l r h e =
     rw (some-turn n l r h e)
     (turned-any (map sensorTick) (any endsNext) lowered (count runs) AllQuiet turnable n k l _ _ h refl (quiet-most (n - 1) k _ refl) refl _ _ refl refl)
 
+-- the same of a turn that is written out
+pub written-turns : (n k : ℕ) (l t j : List Sensor) (b : Bool) (one : ℕ) → 0 < n → b ≡ any endsNext l → t ≡ map sensorTick l → k ≡ quietTicks (n - 1) t
+    → j ≡ map (loweredBy k) t → one ≡ oneIf b → Turns (map sensorTick) (any endsNext) (count runs) n l j (n - 1 - k) one
+written-turns n k l t j b one h eb et ek ej eo = turn-turns n l _ h (turned n k l t j b one (λ z. omega (arith, h, z)) eb et ek ej eo)
+
 pub run-done : (n : ℕ) (l₀ l : List Sensor) (left stops : ℕ) → Running (map sensorTick) (any endsNext) n l₀ l left stops → left ≤ 0
     → Passes n l₀ (record { sensors = l; stops = stops })
 run-done n l₀ l left stops r h =

@@ -6,12 +6,12 @@ use mathlib.Core.Logic.{_⊎_, inl, inr, ⊎-elim}
 use Prim.Native.Nat.{ℕ, zero, suc, _+_, _-_, _<_, _≤_}
 use native.Mathlib.Omega.{arith}
 use lib.Dec.{eqb}
-use lib.ListN.{getD, set}
+use lib.ListN.{length, getD, set}
 use borrow.Author.Tests.{eq-eqb, ne-eqb, ltb-false}
 use Rattle.base.specs.Lists.{oneIf, any, count}
 use Rattle.base.proofs.Lists.{or-le}
 use Rattle.base.proofs.Jumps.{Jumps}
-use Rattle.base.proofs.Loops.{Mapped, map-again, map-skip}
+use Rattle.base.proofs.Loops.{Mapped, map-again, map-skip, map-done}
 use Rattle.sensor.specs.declared.single.Sensor.{Sensor}
 use Rattle.sensor.specs.Single.{sensorTick, powerCycleOf, endsNext, runs}
 use Rattle.sensor.specs.Parts.{loweredBy, quietOf}
@@ -138,6 +138,21 @@ module _ (n : ℕ) (l m x : List Sensor) (i : ℕ) (d : Sensor) (s : Mapped powe
   -- another rests, and is left
   pub one-rests : powerCycleOf (getD m i d) ≡ getD m i d → x ≡ m → Mapped powerCycleOf n l x (i + 1)
   one-rests f q = rw q (map-skip powerCycleOf n l m i d s h (sym f))
+
+-- ---- the loop that asks whether all rest
+
+pub all-done : (n : ℕ) (l : List Sensor) (i : ℕ) → Mapped powerCycleOf n l l i → n ≤ i → map powerCycleOf l ≡ l
+all-done n l i t h = sym (map-done powerCycleOf n l l i t h)
+
+-- a power cycle that leaves all as they are leaves each so
+pub each-rests : (l : List Sensor) (i : ℕ) (d : Sensor) → i < length l → map powerCycleOf l ≡ l → powerCycleOf (getD l i d) ≡ getD l i d
+each-rests [] i d h e = absurd (omega arith)
+each-rests (s ∷ l) zero d h e = ap (λ (m : List Sensor). getD m 0 d) e
+each-rests (s ∷ l) (suc i) d h e = each-rests l i d (omega arith) (ap rest e)
+  where
+    rest : List Sensor → List Sensor
+    rest [] = []
+    rest (x ∷ m) = m
 
 -- ---- stops use up running timers
 

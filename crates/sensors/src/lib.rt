@@ -1,5 +1,6 @@
 // The sensors of a drive (document 01, 'Sensors'), by value: one of them, and what a tick, a jump over quiet ticks and a power cycle make of all sixteen.
 ghost use mathlib.Core.Path.{_≡_};
+ghost use mathlib.Core.Bool.{true};
 ghost use mathlib.Core.List.{map};
 ghost use Rattle.base.specs.Lists.{any, oneIf};
 ghost use Rattle.base.specs.Lists.{count as countOf};
@@ -58,6 +59,20 @@ pub fn lower_all(sensors: [Sensor; 16], k: u32) -> [Sensor; 16]
         out[i] = s.lower(k);
     }
     out
+}
+
+// Whether a power cycle leaves all sixteen as they are.
+pub fn all_rest(sensors: [Sensor; 16]) -> bool
+    ensures { λ r. ⌜ (r ≡ true → map powerCycleOf sensors ≡ sensors) ⌝ }
+    ensures only { λ r. ⌜ (map powerCycleOf sensors ≡ sensors → r ≡ true) ⌝ }
+{
+    for i in 0..16 {
+        let s = sensors[i];
+        if s.rests() {} else {
+            return false;
+        }
+    }
+    true
 }
 
 // Each sensor after a power cycle, which changes those alone that do not rest.
@@ -122,7 +137,7 @@ pub fn turn_once(sensors: [Sensor; 16], left: u32) -> Turn
     }
 }
 
-// n ticks, in at most one turn more than there are stops.
+// n ticks, in at most one turn more than there are stops. A turn is that of `turn_once`, written out: a call would copy the sensors.
 pub fn pass_all(sensors: [Sensor; 16], n: u32) -> Passed
     ensures { λ r. ⌜ Passes n sensors r ⌝ }
 {
@@ -130,10 +145,13 @@ pub fn pass_all(sensors: [Sensor; 16], n: u32) -> Passed
     let mut left = n;
     let mut stops: u64 = 0;
     while 0 < left {
-        let t = turn_once(next, left);
-        next = t.sensors;
-        left = t.left;
-        stops += t.stops;
+        let stop = some_ends(next);
+        let moved = tick_all(next);
+        let quiet = quiet_ticks(moved, left - 1);
+        let after = lower_all(moved, quiet);
+        next = after;
+        left = left - 1 - quiet;
+        stops += one_if(stop) as u64;
     }
     Passed {
         sensors: next,
