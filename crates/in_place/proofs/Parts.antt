@@ -1,29 +1,24 @@
--- What the parts' code comes to: one sensor's events, a Set of one row, an elapse of the sensors alone, and the change of an event.
-use mathlib.Core.Path.{_≡_, refl, sym, ap, ap₂, _∙_, subst}
+-- What the parts' code comes to: one sensor's events, a Set of one row, the stops of an elapse, a transfer's answer, and the change of an event.
+use mathlib.Core.Path.{_≡_, refl, sym, ap, _∙_, subst}
 use Prim.Native.Nat.{ℕ, _≤_, _<_}
 use native.Mathlib.Omega.{arith}
-use mathlib.Core.Bool.{Bool, true, false, not, cond, _&&_, Bool·beq}
+use mathlib.Core.Bool.{Bool, true, false, not, cond, Bool·beq}
 use mathlib.Core.List.{List, map}
 use mathlib.Core.Logic.{_≢_}
 use lib.Dec.{eqb, ltb}
 use lib.ListN.{length}
 use borrow.Author.Tests.{lt-ltb, le-ltb, eq-eqb, ne-eqb}
-use Rattle.base.specs.Lists.{any, count}
 use Rattle.base.specs.Rows.{isRow}
 use Rattle.base.specs.Ticks.{mostTicks}
 use Rattle.base.proofs.Cases.{cond-true, cond-false}
 use Rattle.base.proofs.Lists.{few-counted}
-use Rattle.base.proofs.Jumps.{quiet-ticks, quiet-stops}
 use Rattle.answer.specs.declared.Answer.{Answer}
 use Rattle.answer.specs.Numbers.{numberOf}
 use Rattle.sensor.specs.declared.single.Sensor.{Sensor}
 use Rattle.sensor.specs.declared.single.SensorAnswer.{SensorAnswer}
-use Rattle.sensor.specs.Single.{sensorTick, runs, endsNext, Answers}
-use Rattle.sensor.specs.Parts.{loweredBy}
+use Rattle.sensor.specs.Single.{runs, Answers}
 use Rattle.sensors.specs.declared.Passed.{Passed}
 use Rattle.sensors.specs.Sixteen.{Passes}
-use Rattle.sensors.specs.Parts.{quietTicks}
-use Rattle.sensors.proofs.Quiet.{AllQuiet, quietTicks-le, quietTicks-quiet, sensors-jump}
 use Rattle.band.specs.declared.Row.{Row}
 use Rattle.band_columns.specs.declared.BandColumns.{BandColumns}
 use Rattle.band.specs.declared.Side.{Side}
@@ -42,8 +37,7 @@ use Rattle.in_place.specs.declared.Change.the-variants as C
 use Rattle.in_place.specs.Parts.{noReset, sensorChange, rowChange, elapseChange, resetChange, changeOf}
 use Rattle.in_place.specs.declared.SensorAfter.{SensorAfter}
 use Rattle.in_place.specs.declared.RowAfter.{RowAfter}
-use Rattle.in_place.specs.declared.SensorsAfter.{SensorsAfter}
-use Rattle.in_place.specs.Parts.{LeavesSensor, LeavesRow, byStops, LeavesSensors}
+use Rattle.in_place.specs.Parts.{LeavesSensor, LeavesRow}
 
 -- ---- one sensor
 
@@ -76,26 +70,7 @@ forms cs c part bytes one r m new a o et h en ea eo er em eq = record {
   lockable-is = eq ∙ eo ∙ ap (λ (row : Row). isLockable row) (sym er);
 }
 
--- ---- an elapse
-
-module _ (n : ℕ) (l : List Sensor) where
-  pub stops-lockable : (o t : Bool) (q : ℕ) → o ≡ true → q ≡ quietTicks n l → t ≡ ltb q n → t ≡ byStops o n l
-  stops-lockable o t q e eq et = et ∙ ap₂ (λ (b : Bool) (k : ℕ). b && ltb k n) (sym e) eq
-
-  pub stops-none : (o : Bool) → o ≡ false → false ≡ byStops o n l
-  stops-none o e = ap (λ (b : Bool). b && ltb (quietTicks n l) n) (sym e)
-
-  pub pass-quiet : (r : SensorsAfter) (q : ℕ) (m : List Sensor) → q ≡ quietTicks n l → n ≤ q → m ≡ map (loweredBy n) l → r .sensors ≡ m → r .stops ≡ 0 → LeavesSensors n l r
-  pass-quiet r q m eq h em es ez =
-      let en : quietTicks n l ≡ n = omega (arith, eq, h, quietTicks-le n l) in
-      let c : AllQuiet n l = subst (λ (k : ℕ). AllQuiet k l) en (quietTicks-quiet n l) in
-      record {
-        sensors-are = es ∙ em ∙ sym (quiet-ticks (map sensorTick) (any endsNext) (λ k l. map (loweredBy k) l) AllQuiet sensors-jump n l c);
-        stops-are = ez ∙ sym (quiet-stops (map sensorTick) (any endsNext) (λ k l. map (loweredBy k) l) AllQuiet sensors-jump n l c);
-      }
-
-  pub pass-on : (r : SensorsAfter) (p : Passed) (z : ℕ) → Passes n l p → z ≡ p .stops → r .sensors ≡ p .sensors → r .stops ≡ z → LeavesSensors n l r
-  pass-on r p z w e es ez = record { sensors-are = es ∙ w .sensors; stops-are = ez ∙ e ∙ w .stops }
+-- ---- an elapse, and a transfer
 
 -- the stops fit a byte: there are at most as many as sensors
 pub passes-fits : (l : List Sensor) (n : ℕ) (r : Passed) → Passes n l r → r .stops ≤ length l

@@ -6,7 +6,7 @@ use mathlib.Core.Bool.{Bool, true, false, not, cond, _&&_, _||_, Bool·beq, true
 use mathlib.Core.List.{List, [], _∷_, map}
 use lib.Dec.{eqb, ltb}
 use lib.ListN.{length, getD, set}
-use borrow.Author.Tests.{le-ltb, ltb-false, ltb-true, eqb-true, ne-eqb}
+use borrow.Author.Tests.{le-ltb, ltb-true, eqb-true, ne-eqb}
 use Rattle.base.specs.Lists.{oneIf, any}
 use Rattle.base.specs.Rows.{isRow, modify}
 use Rattle.base.specs.Ticks.{mostTicks, ticks}
@@ -20,9 +20,10 @@ use Rattle.sensor.specs.declared.single.Sensor.{Sensor}
 use Rattle.sensor.specs.Single.{powerCycleOf, endsNext}
 use Rattle.sensor.specs.Parts.{loweredBy}
 use Rattle.sensor.specs.Single.{sensorTick}
-use Rattle.sensors.specs.Sixteen.{conditionsBelow}
+use Rattle.sensors.specs.declared.Passed.{Passed}
+use Rattle.sensors.specs.Sixteen.{conditionsBelow, Passes}
 use Rattle.sensors.specs.Parts.{quietTicks}
-use Rattle.sensors.proofs.Quiet.{AllQuiet, quietTicks-le, quietTicks-quiet, sensors-jump}
+use Rattle.sensors.proofs.Quiet.{AllQuiet, quietTicks-le, quietTicks-quiet}
 use Rattle.band.specs.declared.Row.{Row}
 use Rattle.band_columns.specs.declared.BandColumns.{BandColumns}
 use Rattle.band.specs.Rows.{lastResetType, freshRow, closedOn, settleRow, inSet, resetRow}
@@ -46,9 +47,8 @@ use Rattle.row_set.specs.declared.RowAnswer.{RowAnswer}
 use Rattle.row_set.specs.Forming.{rowAnswer, SetsRow}
 use Rattle.in_place.specs.declared.SensorAfter.{SensorAfter}
 use Rattle.in_place.specs.declared.RowAfter.{RowAfter}
-use Rattle.in_place.specs.declared.SensorsAfter.{SensorsAfter}
 use Rattle.in_place.specs.Parts.{noReset}
-use Rattle.in_place.specs.Parts.{SettledSixteen, LeavesSensor, LeavesRow, byStops, LeavesSensors}
+use Rattle.in_place.specs.Parts.{SettledSixteen, LeavesSensor, LeavesRow}
 use Rattle.in_place.proofs.Sixteen.{step-sixteen}
 
 -- an event run: the two bytes written for it, and the drive that it left
@@ -225,11 +225,11 @@ elapsed d n z x s h ez ex = record {
     done = ap (λ (m : ℕ). eqb m 0) (sym zero-answer)
 
 -- from stop to stop, with the bands settled at each
-pub stops-stored : (d : Drive) (k : SettledSixteen d) (n z : ℕ) (r : Elapsed) (o t : Bool) (w : ℕ) → lastResetType < w → n ≤ mostTicks → t ≡ byStops o n (d .sensors) → t ≡ true → Elapses n d r → z ≡ r .stops
+pub stops-stored : (d : Drive) (k : SettledSixteen d) (n z : ℕ) (r : Elapsed) (o : Bool) (w : ℕ) → lastResetType < w → n ≤ mostTicks → o ≡ true → Elapses n d r → z ≡ r .stops
     → EventStored d (elapse n) 0 z (r .drive) o true w
-stops-stored d k n z r o t w g b p e h ez =
+stops-stored d k n z r o w g b e h ez =
     settled-stored d (elapse n) 0 z (r .drive) o true w k g (elapsed d n z (r .drive) (k .settled) b (ez ∙ h .stops) (h .drive))
-    (λ f. absurd (true≢false (sym e ∙ p ∙ ap (λ (x : Bool). x && ltb (quietTicks n (d .sensors)) n) f)))
+    (λ f. absurd (true≢false (sym e ∙ f)))
 
 -- no row is lockable: the sensors alone pass
 module _ (d : Drive) (o : any isLockable (d .rows) ≡ false) where
@@ -249,32 +249,26 @@ module _ (d : Drive) (o : any isLockable (d .rows) ≡ false) where
       ap (λ (m : ℕ). oneIf (any endsNext l) + m)
       (ap (λ (x : Drive). stopsIn tickOf stopNext n x) (steady-tick l) ∙ steady-stops n (map sensorTick l))
 
--- the sensors alone: no row is lockable, or no timer ends
-pub pass-stored : (d : Drive) (k : SettledSixteen d) (n : ℕ) (r : SensorsAfter) (o t due : Bool) (w : ℕ) → lastResetType < w → (o ≡ false → any isLockable (d .rows) ≡ false) → n ≤ mostTicks → t ≡ byStops o n (d .sensors) → t ≡ false
-    → LeavesSensors n (d .sensors) r → EventStored d (elapse n) 0 (r .stops) (withSensors (r .sensors) d) o due w
+-- an elapse in which nothing settles
+pub pass-stored : (d : Drive) (k : SettledSixteen d) (n z : ℕ) (r : Passed) (o due : Bool) (w : ℕ) → lastResetType < w → (o ≡ false → any isLockable (d .rows) ≡ false) → n ≤ mostTicks → o ≡ false
+    → Passes n (d .sensors) r → z ≡ r .stops → EventStored d (elapse n) 0 z (withSensors (r .sensors) d) o due w
+pass-stored d k n z r o due w g fl b e h ez =
+    settled-stored d (elapse n) 0 z (withSensors (r .sensors) d) o due w k g
+    (elapsed d n z (withSensors (r .sensors) d) (k .settled) b (ez ∙ h .stops ∙ sym (steady-stops d (fl e) n (d .sensors)))
+    (ap (λ (l : List Sensor). withSensors l d) (h .sensors) ∙ sym (steady-ticks d (fl e) n (d .sensors))))
+    fl
+
+-- no timer ends: the timers that run are lower, whether or not a row is lockable
+pub quiet-stored : (d : Drive) (k : SettledSixteen d) (n q : ℕ) (l : List Sensor) (o due : Bool) (w : ℕ) → lastResetType < w → (o ≡ false → any isLockable (d .rows) ≡ false) → n ≤ mostTicks
+    → q ≡ quietTicks n (d .sensors) → n ≤ q → l ≡ map (loweredBy n) (d .sensors) → EventStored d (elapse n) 0 0 (withSensors l d) o due w
 unfolding jumpOf
-pass-stored d k n r o t due w g fl b p e h = settled-stored d (elapse n) 0 (r .stops) (withSensors (r .sensors) d) o due w k g (go o refl) fl
-  where
-    -- the sensors' ticks are the drive's
-    alone : withSensors (ticks (map sensorTick) n (d .sensors)) d ≡ ticks tickOf n d → stopsIn (map sensorTick) (any endsNext) n (d .sensors) ≡ stopsIn tickOf stopNext n d
-        → EventRan d (elapse n) 0 (r .stops) (withSensors (r .sensors) d)
-    alone ex ez =
-        elapsed d n (r .stops) (withSensors (r .sensors) d) (k .settled) b (h .stops-are ∙ ez)
-        (ap (λ (l : List Sensor). withSensors l d) (h .sensors-are) ∙ ex)
-
-    quiet : quietTicks n (d .sensors) ≡ n → EventRan d (elapse n) 0 (r .stops) (withSensors (r .sensors) d)
-    quiet en =
-        let a : AllQuiet n (d .sensors) = subst (λ (m : ℕ). AllQuiet m (d .sensors)) en (quietTicks-quiet n (d .sensors)) in
-        let c : Calm n d = record { settled = k .settled; timers = a } in
-        alone
-        (ap (λ (l : List Sensor). withSensors l d) (quiet-ticks (map sensorTick) (any endsNext) (λ k l. map (loweredBy k) l) AllQuiet sensors-jump n (d .sensors) a) ∙ sym (quiet-ticks tickOf stopNext jumpOf Calm drive-jumps n d c))
-        (quiet-stops (map sensorTick) (any endsNext) (λ k l. map (loweredBy k) l) AllQuiet sensors-jump n (d .sensors) a ∙ sym (quiet-stops tickOf stopNext jumpOf Calm drive-jumps n d c))
-
-    go : (x : Bool) → o ≡ x → EventRan d (elapse n) 0 (r .stops) (withSensors (r .sensors) d)
-    go false eo = let c = fl eo in alone (sym (steady-ticks d c n (d .sensors))) (sym (steady-stops d c n (d .sensors)))
-    go true eo =
-        let f : ltb (quietTicks n (d .sensors)) n ≡ false = sym (ap (λ (x : Bool). x && ltb (quietTicks n (d .sensors)) n) eo) ∙ sym p ∙ e in
-        quiet (omega (arith, quietTicks-le n (d .sensors), ltb-false (quietTicks n (d .sensors)) n f))
+quiet-stored d k n q l o due w g fl b eq h el =
+    let en : quietTicks n (d .sensors) ≡ n = omega (arith, eq, h, quietTicks-le n (d .sensors)) in
+    let c : Calm n d = record { settled = k .settled; timers = subst (λ (m : ℕ). AllQuiet m (d .sensors)) en (quietTicks-quiet n (d .sensors)) } in
+    settled-stored d (elapse n) 0 0 (withSensors l d) o due w k g
+    (elapsed d n 0 (withSensors l d) (k .settled) b (sym (quiet-stops tickOf stopNext jumpOf Calm drive-jumps n d c))
+    (ap (λ (m : List Sensor). withSensors m d) el ∙ sym (quiet-ticks tickOf stopNext jumpOf Calm drive-jumps n d c)))
+    fl
 
 -- ---- reset
 

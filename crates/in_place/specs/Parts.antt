@@ -1,19 +1,16 @@
--- What the run keeps of its drive, and what it takes from its parts: one sensor's events, a Set of one row, and an elapse of the sensors alone.
+-- What the run keeps of its drive, and what it takes from its parts: one sensor's events, a Set of one row, and the change of an event.
 use Rattle.sensor_set.specs.declared.SensorEvent.the-variants as S
 use Rattle.drive.specs.declared.Kind.the-variants as K
 use Rattle.in_place.specs.declared.Change.the-variants as C
 use Prim.Native.Nat.{ℕ}
 use mathlib.Core.Path.{_≡_}
-use mathlib.Core.Bool.{Bool, not, _&&_, Bool·beq, cond}
-use mathlib.Core.List.{List, map}
+use mathlib.Core.Bool.{Bool, not, Bool·beq, cond}
+use mathlib.Core.List.{List}
 use lib.Dec.{ltb, eqb}
 use lib.ListN.{length}
-use Rattle.base.specs.Lists.{any}
-use Rattle.base.specs.Ticks.{ticks, stops, mostTicks}
+use Rattle.base.specs.Ticks.{mostTicks}
 use Rattle.answer.specs.Numbers.{numberOf}
 use Rattle.sensor.specs.declared.single.Sensor.{Sensor}
-use Rattle.sensor.specs.Single.{sensorTick, endsNext}
-use Rattle.sensors.specs.Parts.{quietTicks}
 use Rattle.band.specs.declared.Row.{Row}
 use Rattle.band_columns.specs.declared.BandColumns.{BandColumns}
 use Rattle.band.specs.Rows.{settleRow, lastResetType}
@@ -24,7 +21,6 @@ use Rattle.row_set.specs.declared.RowAnswer.{RowAnswer}
 use Rattle.row_set.specs.Forming.{SetsRow}
 use Rattle.in_place.specs.declared.SensorAfter.{SensorAfter}
 use Rattle.in_place.specs.declared.RowAfter.{RowAfter}
-use Rattle.in_place.specs.declared.SensorsAfter.{SensorsAfter}
 use Rattle.base.specs.Rows.{isRow}
 use Rattle.sensor_set.specs.declared.SensorEvent.{SensorEvent}
 use Rattle.drive.specs.declared.Kind.{Kind}
@@ -49,15 +45,6 @@ pub record LeavesRow (conditions : List Bool) (columns : BandColumns) (bytes : L
   pub number-is : r .number ≡ numberOf (reply .answer)
   pub row-is : r .row ≡ settleRow conditions (reply .row)
   pub lockable-is : r .lockable ≡ isLockable (r .row)
-
--- a timer ends in an elapse while a row may be lockable
-abbrev pub byStops : Bool → ℕ → List Sensor → Bool
-byStops mayBeLockable n l = mayBeLockable && ltb (quietTicks n l) n
-
--- an elapse of the sensors alone: "n ticks", and "the ticks at which some timer ends"
-pub record LeavesSensors (n : ℕ) (l : List Sensor) (r : SensorsAfter) : Type 0 where
-  pub sensors-are : r .sensors ≡ ticks (map sensorTick) n l
-  pub stops-are : r .stops ≡ stops (map sensorTick) (any endsNext) n l
 
 -- ---- what an event changes of a drive: one sensor, one row, the sensors, the spans or nothing
 

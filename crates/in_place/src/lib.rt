@@ -15,7 +15,7 @@ ghost use Rattle.drive.specs.Events.{sideOf};
 ghost use Rattle.event_reader.specs.Fields.{tokensAt};
 ghost use Rattle.in_place.specs.FirstEvents.{after, eventsRun, firstEvents, firstEventsRun};
 ghost use Rattle.in_place.specs.Parts.{noReset, sensorChange, rowChange, elapseChange, resetChange, changeOf};
-ghost use Rattle.in_place.specs.Parts.{SettledSixteen, LeavesSensor, LeavesRow, byStops, LeavesSensors};
+ghost use Rattle.in_place.specs.Parts.{SettledSixteen, LeavesSensor, LeavesRow};
 use band::Row;
 use band_columns::BandColumns;
 use drive::Drive;
@@ -76,12 +76,6 @@ struct RowAfter {
     lockable: bool,
 }
 
-// What an elapse makes of the sensors alone, and the stops as a byte.
-struct SensorsAfter {
-    sensors: [Sensor; 16],
-    stops: u8,
-}
-
 fn differ(a: bool, b: bool) -> bool
     ensures { λ r. ⌜ r ≡ not (Bool·beq a b) ⌝ }
 {
@@ -137,35 +131,6 @@ fn byte(stops: u64, sensors: [Sensor; 16]) -> u8
     ensures { λ r. ⌜ r ≡ stops ⌝ }
 {
     stops as u8
-}
-
-// Whether an elapse goes from stop to stop with the bands settled at each: a timer ends in it while a row may be lockable.
-fn by_stops(any_lockable: bool, all: [Sensor; 16], ticks: u32) -> bool
-    ensures { λ r. ⌜ r ≡ byStops «any_lockable» ticks all ⌝ }
-{
-    if any_lockable {
-        return sensors::quiet_ticks(all, ticks) < ticks;
-    }
-    false
-}
-
-// An elapse of the sensors alone.
-fn pass(all: [Sensor; 16], ticks: u32) -> SensorsAfter
-    ensures { λ r. ⌜ LeavesSensors ticks all r ⌝ }
-{
-    if sensors::quiet_ticks(all, ticks) < ticks {
-        let passed = sensors::pass_all(all, ticks);
-        let after = passed.sensors;
-        return SensorsAfter {
-            sensors: after,
-            stops: byte(passed.stops, all),
-        };
-    }
-    let after = sensors::lower_all(all, ticks);
-    SensorsAfter {
-        sensors: after,
-        stops: 0,
-    }
 }
 
 // The number of a reset's answer.
@@ -352,23 +317,34 @@ fn run_settled(
             }
             Change::Elapse { ticks } => {
                 let all = drive.sensors;
-                if by_stops(any_lockable, all, ticks) {
-                    let elapsed = elapse::elapse(drive, ticks);
-                    let after = elapsed.drive;
-                    drive = after;
-                    ended = byte(elapsed.stops, all);
-                    due = true;
+                if sensors::quiet_ticks(all, ticks) < ticks {
+                    if any_lockable {
+                        // from stop to stop, with the bands settled at each
+                        let elapsed = elapse::elapse(drive, ticks);
+                        let after = elapsed.drive;
+                        drive = after;
+                        ended = byte(elapsed.stops, all);
+                        due = true;
+                    } else {
+                        // nothing settles: the sensors alone
+                        let passed = sensors::pass_all(all, ticks);
+                        let after = passed.sensors;
+                        drive.sensors = after;
+                        ended = byte(passed.stops, all);
+                    }
                 } else {
-                    let r = pass(all, ticks);
-                    let after = r.sensors;
+                    // no timer ends
+                    let after = sensors::lower_all(all, ticks);
                     drive.sensors = after;
-                    ended = r.stops;
                 }
             }
             Change::PowerCycle => {
                 let all = drive.sensors;
-                let after = sensors::power_cycle_all(all);
-                drive.sensors = after;
+                // sensors that all rest stay as they are
+                if sensors::all_rest(all) {} else {
+                    let after = sensors::power_cycle_all(all);
+                    drive.sensors = after;
+                }
                 due = true;
                 locking = 0;
             }

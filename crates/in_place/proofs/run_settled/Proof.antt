@@ -1,11 +1,12 @@
 use Prim.Native.Nat.{_-_, _<_}
 use native.Mathlib.Omega.{arith}
-use mathlib.Core.Path.{refl}
+use mathlib.Core.Path.{refl, sym}
 use mathlib.Core.Logic.{⊎-elim}
 use borrow.Author.Needs.{needs}
 use Rattle.band.specs.Rows.{lastResetType}
 use Rattle.in_place.specs.Parts.{noReset}
-use Rattle.in_place.proofs.Storing.{stored-idle, sensor-stored, nothing-stored, stops-stored, pass-stored, cycle-stored, row-stored, spans-stored, transfer-stored}
+use Rattle.in_place.proofs.Storing.{stored-idle, sensor-stored, nothing-stored, stops-stored, pass-stored, quiet-stored, cycle-stored, row-stored, spans-stored, transfer-stored}
+use Rattle.in_place.proofs.Parts.{passes-fits}
 use Rattle.in_place.proofs.Changing.{sensor-place, sensor-scaled, row-placed, row-scaled}
 use Rattle.in_place.proofs.Finishing.{RowsFinished, finish-begin, finish-lock, finish-stay, finish-pass, finish-as, finished-ran, finished-flag}
 use Rattle.in_place.proofs.Running.{RunSoFar, run-begin, run-broken, run-done, next, next-says, stored-as, stored-long, run-again, elapse-fits}
@@ -69,7 +70,7 @@ on-sensor-requires : tie.Need-on-sensor-requires Inv-loop2 μ-loop2 Inv-loop μ-
 on-sensor-requires c κs = search needs
 
 mul-new : tie.Need-mul-new Inv-loop2 μ-loop2 Inv-loop μ-loop
-mul-new c = search (sensor-scaled, needs)
+mul-new c = search (sensor-scaled, c .before .before .before .before .before .before .change-of .ensures, c .before .before .before .before .change .given .1, needs)
 
 element-set-from-new : tie.Need-element-set-from-new Inv-loop2 μ-loop2 Inv-loop μ-loop
 element-set-from-new c = search sensor-place
@@ -90,7 +91,7 @@ on-row-requires : tie.Need-on-row-requires Inv-loop2 μ-loop2 Inv-loop μ-loop
 on-row-requires c κs = search needs
 
 mul-new-2 : tie.Need-mul-new-2 Inv-loop2 μ-loop2 Inv-loop μ-loop
-mul-new-2 c = search (row-scaled, needs)
+mul-new-2 c = search (row-scaled, c .before .before .before .before .before .before .before .before .change-of .ensures, c .before .before .before .before .before .before .change2 .given .1, needs)
 
 element-set-from-new-2 : tie.Need-element-set-from-new-2 Inv-loop2 μ-loop2 Inv-loop μ-loop
 element-set-from-new-2 c = search row-placed
@@ -101,8 +102,8 @@ or-requires c κs = search needs
 enum-known-change-3 : tie.Need-enum-known-change-3 Inv-loop2 μ-loop2 Inv-loop μ-loop
 enum-known-change-3 c = search needs
 
-by-stops-requires : tie.Need-by-stops-requires Inv-loop2 μ-loop2 Inv-loop μ-loop
-by-stops-requires c κs = search needs
+quiet-ticks-requires : tie.Need-quiet-ticks-requires Inv-loop2 μ-loop2 Inv-loop μ-loop
+quiet-ticks-requires c κs = search needs
 
 elapse-requires : tie.Need-elapse-requires Inv-loop2 μ-loop2 Inv-loop μ-loop
 elapse-requires c κs = search needs
@@ -110,11 +111,20 @@ elapse-requires c κs = search needs
 byte-requires : tie.Need-byte-requires Inv-loop2 μ-loop2 Inv-loop μ-loop
 byte-requires c κs = search elapse-fits
 
-pass-requires : tie.Need-pass-requires Inv-loop2 μ-loop2 Inv-loop μ-loop
-pass-requires c κs = search needs
+pass-all-requires : tie.Need-pass-all-requires Inv-loop2 μ-loop2 Inv-loop μ-loop
+pass-all-requires c κs = search needs
+
+byte-requires-2 : tie.Need-byte-requires-2 Inv-loop2 μ-loop2 Inv-loop μ-loop
+byte-requires-2 c κs = search passes-fits
+
+lower-all-requires : tie.Need-lower-all-requires Inv-loop2 μ-loop2 Inv-loop μ-loop
+lower-all-requires c κs = search needs
 
 enum-told-2 : tie.Need-enum-told-2 Inv-loop2 μ-loop2 Inv-loop μ-loop
 enum-told-2 c = search needs
+
+all-rest-requires : tie.Need-all-rest-requires Inv-loop2 μ-loop2 Inv-loop μ-loop
+all-rest-requires c κs = search needs
 
 power-cycle-all-requires : tie.Need-power-cycle-all-requires Inv-loop2 μ-loop2 Inv-loop μ-loop
 power-cycle-all-requires c κs = search needs
@@ -188,7 +198,7 @@ loop2-again c =
     ⊎-elim (λ w. finish-as (finish-lock _ _ _ _ _ _ _ g _ _ (w .2 .ensures) (w .3 .taken) (w .4 .ensures)) (w .5) (w .6))
     (⊎-elim (λ w. finish-as (finish-stay _ _ _ _ _ _ _ g _ (w .2 .ensures) (w .3 .left)) (w .4) (w .5))
     (λ w. finish-as (finish-pass _ _ _ _ _ _ _ g _ (c .before .lockable .ensures) (w .0 .left)) (w .1) (w .2)))
-    (c .if3 .came)
+    (c .if5 .came)
 
 slice-write-answers : tie.Need-slice-write-answers Inv-loop2 μ-loop2 Inv-loop μ-loop
 slice-write-answers c = search needs
@@ -208,16 +218,18 @@ loop-again c =
     let h =
     ⊎-elim (λ w. stored-as refl (sensor-stored _ (g .sofar .kept) _ _ _ _ (next-says g (c .before .before .before .change-of .ensures) (w .1 .given .1)) _ _ (w .4 .ensures) _ _ above (g .sofar .flag)) (w .6) (w .7) (w .8) (w .9) (w .10) (w .11))
     (⊎-elim (λ w. let q = next-says g (c .before .before .before .change-of .ensures) (w .1 .given .1) in stored-as (q .1) (row-stored _ (g .sofar .kept) _ _ _ _ _ _ _ _ _ _ above (g .sofar .flag) (q .0) (w .4 .ensures) (w .6 .ensures) (w .8 .ensures)) (w .9) (w .10) (w .11) (w .12) (w .13) (w .14))
-    (⊎-elim (λ w. let q = next-says g (c .before .before .before .change-of .ensures) (w .1 .given .1) in stored-as (q .1) (stops-stored _ (g .sofar .kept) _ _ _ _ _ _ above (q .0) (w .4 .ensures) (w .5 .taken) (w .6 .ensures) (w .8 .ensures)) (w .9) (w .10) (w .11) (w .12) (w .13) (w .14))
-    (⊎-elim (λ w. let q = next-says g (c .before .before .before .change-of .ensures) (w .1 .given .1) in stored-as (q .1) (pass-stored _ (g .sofar .kept) _ _ _ _ _ _ above (g .sofar .flag) (q .0) (w .4 .ensures) (w .5 .left) (w .6 .ensures)) (w .8) (w .9) (w .10) (w .11) (w .12) (w .13))
-    (⊎-elim (λ w. stored-as (next-says g (c .before .before .before .change-of .ensures) (w .1 .given .1)) (cycle-stored _ (g .sofar .kept) _ _ (g .sofar .flag) (w .3 .ensures)) (w .4) (w .5) (w .6) (w .7) (w .8) (w .9))
+    (⊎-elim (λ w. let q = next-says g (c .before .before .before .change-of .ensures) (w .1 .given .1) in stored-as (q .1) (stops-stored _ (g .sofar .kept) _ _ _ _ _ above (q .0) (w .6 .taken) (w .7 .ensures) (w .9 .ensures)) (w .10) (w .11) (w .12) (w .13) (w .14) (w .15))
+    (⊎-elim (λ w. let q = next-says g (c .before .before .before .change-of .ensures) (w .1 .given .1) in stored-as (q .1) (pass-stored _ (g .sofar .kept) _ _ _ _ _ _ above (g .sofar .flag) (q .0) (w .6 .left) (w .7 .ensures) (w .9 .ensures)) (w .10) (w .11) (w .12) (w .13) (w .14) (w .15))
+    (⊎-elim (λ w. let q = next-says g (c .before .before .before .change-of .ensures) (w .1 .given .1) in stored-as (q .1) (quiet-stored _ (g .sofar .kept) _ _ _ _ _ _ above (g .sofar .flag) (q .0) (w .4 .ensures) (w .5 .left) (w .6 .ensures)) (w .7) (w .8) (w .9) (w .10) (w .11) (w .12))
+    (⊎-elim (λ w. stored-as (next-says g (c .before .before .before .change-of .ensures) (w .1 .given .1)) (cycle-stored _ (g .sofar .kept) _ _ (g .sofar .flag) (sym (w .3 .ensures .0 (w .4 .taken)))) (w .5) (w .6) (w .7) (w .8) (w .9) (w .10))
+    (⊎-elim (λ w. stored-as (next-says g (c .before .before .before .change-of .ensures) (w .1 .given .1)) (cycle-stored _ (g .sofar .kept) _ _ (g .sofar .flag) (w .5 .ensures)) (w .6) (w .7) (w .8) (w .9) (w .10) (w .11))
     (⊎-elim (λ w. stored-as (next-says g (c .before .before .before .change-of .ensures) (w .1 .given .1)) (spans-stored _ (g .sofar .kept) _ _ _ _ _ _ _ _ above (g .sofar .flag) (w .4 .ensures .0) (w .6 .ensures)) (w .7) (w .8) (w .9) (w .10) (w .11) (w .12))
     (⊎-elim (λ w. stored-as (next-says g (c .before .before .before .change-of .ensures) (w .1 .given .1)) (transfer-stored _ (g .sofar .kept) _ _ _ _ _ _ _ above (g .sofar .flag) (w .5 .ensures)) (w .6) (w .7) (w .8) (w .9) (w .10) (w .11))
-    (λ w. stored-as refl (nothing-stored _ (g .sofar .kept) _ _ _ (next-says g (c .before .before .before .change-of .ensures) (w .1 .given .1)) _ _ (g .sofar .flag) (w .3 .ensures)) (w .4) (w .5) (w .6) (w .7) (w .8) (w .9))))))))
+    (λ w. stored-as refl (nothing-stored _ (g .sofar .kept) _ _ _ (next-says g (c .before .before .before .change-of .ensures) (w .1 .given .1)) _ _ (g .sofar .flag) (w .3 .ensures)) (w .4) (w .5) (w .6) (w .7) (w .8) (w .9))))))))))
     (c .before .before .match2 .came) in
     ⊎-elim (λ w. let l = stored-long (g .sofar .kept) h in run-again g (finished-ran l h (w .2 .ensures) (w .3 .inv) (w .4 .left)) (finished-flag l h (w .2 .ensures) (w .3 .inv) (w .4 .left)) (w .5) (w .6))
     (λ w. run-again g (stored-idle h (c .before .and .ensures) (w .0 .left)) (h .flag) (w .1) (w .2))
-    (c .if2 .came)
+    (c .if4 .came)
 
 same-length-3 : tie.Need-same-length-3 Inv-loop2 μ-loop2 Inv-loop μ-loop
 same-length-3 c = search needs
@@ -259,11 +271,14 @@ run-settled-spec =
     element-set-from-new-2
     or-requires
     enum-known-change-3
-    by-stops-requires
+    quiet-ticks-requires
     elapse-requires
     byte-requires
-    pass-requires
+    pass-all-requires
+    byte-requires-2
+    lower-all-requires
     enum-told-2
+    all-rest-requires
     power-cycle-all-requires
     enum-known-change-4
     place-requires
