@@ -17,8 +17,7 @@ use Rattle.base.proofs.Jumps.{ticks-keep}
 use Rattle.sensor.specs.declared.single.Sensor.{Sensor}
 use Rattle.sensor.specs.Single.{freshSensor, powerCycleOf, sensorTick}
 use Rattle.sensor_set.specs.Columns.{sensorAfter}
-use Rattle.sensor.specs.Sound.{Sound}
-use Rattle.sensor_set.proofs.Keeping.{keeps-sound}
+use Rattle.sensor_set.proofs.Keeping.{Keeps, keeps-sound, keeps-judged}
 use Rattle.sensor.proofs.Motion.{fresh-tick, fresh-power-cycle}
 use Rattle.base.specs.Lists.{Bytes}
 use Rattle.token_reader.specs.Read.{mostTokenBytes, TokenOutcome, elements, refusal, readTokens, expressionIn}
@@ -40,8 +39,18 @@ use Rattle.drive.specs.Events.{Shape, ticking, resetting, setting, sensing, pla
 use Rattle.drive.specs.Events.{Event, refusalsBy, refusals, answerOf, formedFrom, actBy, actOf, stepOf, runOf}
 use Rattle.drive.proofs.Answers.{granted-free}
 use Rattle.drive.proofs.Settling.{settle-twice}
-use Rattle.reached.specs.Reached.{Table, Stored, RowFits, InRange, Shaped, Reached, Fields, AllFields}
+use Rattle.reached.specs.Reached.{Table, Stored, RowFits, SensorFits, InRange, Shaped, Reached, Fields, AllFields}
 use Rattle.reached.proofs.Tables.{fresh-table, map-table, modify-table, set-table}
+
+-- ---- one sensor
+
+keeps-fits : Keeps SensorFits
+keeps-fits = record {
+  fresh = record { sound = keeps-sound .fresh; judged = keeps-judged .fresh };
+  event = λ x s h. record { sound = keeps-sound .event x s (h .sound); judged = keeps-judged .event x s (h .judged) };
+  tick = λ s h. record { sound = keeps-sound .tick s (h .sound); judged = keeps-judged .tick s (h .judged) };
+  cycle = λ s h. record { sound = keeps-sound .cycle s (h .sound); judged = keeps-judged .cycle s (h .judged) };
+}
 
 -- ---- one row
 
@@ -85,7 +94,7 @@ module _ (d : Drive) (r : Shaped d) where
       → Shaped (withSpans l d)
   with-spans l t w = record { header = r .header; rows = r .rows; spans = t; apart = w; sensors = r .sensors }
 
-  with-sensors : (l : List Sensor) → Table Sound freshSensor (d .«sensor_count») l → Shaped (withSensors l d)
+  with-sensors : (l : List Sensor) → Table SensorFits freshSensor (d .«sensor_count») l → Shaped (withSensors l d)
   with-sensors l t = record { header = r .header; rows = r .rows; spans = r .spans; apart = r .apart; sensors = t }
 
   settle-shaped : Shaped (settleOf d)
@@ -95,7 +104,7 @@ module _ (d : Drive) (r : Shaped d) where
       (map-table RowFits freshRow (settleRow (conditionsOf d)) (settle-fits (conditionsOf d)) _ _ (r .rows) (fresh-settles (conditionsOf d)))
 
   fall-shaped : Shaped (fallOf d)
-  fall-shaped = with-sensors _ (map-table Sound freshSensor sensorTick (keeps-sound .tick) _ _ (r .sensors) fresh-tick)
+  fall-shaped = with-sensors _ (map-table SensorFits freshSensor sensorTick (keeps-fits .tick) _ _ (r .sensors) fresh-tick)
 
 tick-shaped : (d : Drive) → Shaped d → Shaped (tickOf d)
 unfolding tickOf
@@ -111,14 +120,14 @@ shape-shaped : (d : Drive) (y : Shape) → Bytes (ifSetting y (λ b c tokens. to
 shape-shaped d (ticking n) f q r = ticks-keep tickOf Shaped tick-shaped n d r
 shape-shaped d (resetting t) f q r =
     with-sensors _ (with-rows d r _ (map-table RowFits freshRow (resetRow t) (reset-fits t) _ _ (r .rows) (fresh-reset t))) _
-    (cond-either (Table Sound freshSensor (d .«sensor_count»)) (eqb t 0) (map powerCycleOf (d .sensors)) (d .sensors)
-    (λ e. map-table Sound freshSensor powerCycleOf (keeps-sound .cycle) _ _ (r .sensors) fresh-power-cycle) (λ e. r .sensors))
+    (cond-either (Table SensorFits freshSensor (d .«sensor_count»)) (eqb t 0) (map powerCycleOf (d .sensors)) (d .sensors)
+    (λ e. map-table SensorFits freshSensor powerCycleOf (keeps-fits .cycle) _ _ (r .sensors) fresh-power-cycle) (λ e. r .sensors))
 shape-shaped d (setting b c tokens) f q r =
     let fits : columnsFit c ≡ true = not-false (columnsFit c) (neither (not (columnsFit c)) (ltb mostTokenBytes (length tokens)) (q 1) .0) in
     with-rows d r _
     (modify-table RowFits freshRow (formedFrom c tokens) (formed-fits c tokens fits f) _ _ (r .rows) b (counted _ b (q 0) .0))
 shape-shaped d (sensing s x) f q r =
-    with-sensors d r _ (modify-table Sound freshSensor (sensorAfter x) (keeps-sound .event x) _ _ (r .sensors) s (counted _ s (q 0) .0))
+    with-sensors d r _ (modify-table SensorFits freshSensor (sensorAfter x) (keeps-fits .event x) _ _ (r .sensors) s (counted _ s (q 0) .0))
 shape-shaped d (placing b start n) f q r =
     let e = end-up-to (d .capacity) start n (q 2) in
     let k = counted (d .«band_count») b (q 0) in
@@ -167,7 +176,7 @@ fresh-shaped capacity bands sensors h = record {
   rows = fresh-table RowFits freshRow bands fresh-fits;
   spans = fresh-table (Within capacity) noSpan bands (fresh-within capacity);
   apart = fresh-apart bands;
-  sensors = fresh-table Sound freshSensor sensors (keeps-sound .fresh);
+  sensors = fresh-table SensorFits freshSensor sensors (keeps-fits .fresh);
 }
 
 pub fresh-reached : (capacity bands sensors : ℕ) → headerFits capacity bands sensors ≡ true → Reached (freshDrive capacity bands sensors)

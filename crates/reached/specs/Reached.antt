@@ -6,7 +6,8 @@ use mathlib.Core.List.{List, [], _∷_}
 use lib.ListN.{length, getD}
 use Rattle.base.specs.Lists.{Bytes}
 use Rattle.sensor.specs.Single.{freshSensor}
-use Rattle.sensor.specs.Sound.{Sound}
+use Rattle.sensor.specs.declared.single.Sensor.{Sensor}
+use Rattle.sensor.specs.Sound.{Sound, Judged}
 use Rattle.expression.specs.declared.Element.{Element}
 use Rattle.expression.specs.declared.Expression.{Expression}
 use Rattle.expression.specs.Elements.{mostElements, expressionOf, AllFit}
@@ -44,6 +45,12 @@ pub record RowFits (row : Row) : Type 0 where
   -- "Empty or malformed is stored" too
   pub expression : Stored (row .expression)
 
+pub record SensorFits (s : Sensor) : Type 0 where
+  -- a timer, a phase, a level and a condition that agree, and fractions in their range
+  pub sound : Sound s
+  -- document 02, #101: "Thresholds act when they are set.": the level is the one that the last reading gives under the thresholds as they are
+  pub judged : Judged s
+
 -- "a header out of range" is refused
 pub record InRange (capacity bands sensors : ℕ) : Type 0 where
   -- "Capacity is 1 to 2^48 blocks"
@@ -65,8 +72,8 @@ pub record Shaped (d : Drive) : Type 0 where
   pub spans : Table (Within (d .capacity)) noSpan (d .«band_count») (d .spans)
   -- no "two non-empty bands .. share a block"
   pub apart : overlapping (bandSpans (d .«band_count») (d .spans)) ≡ false
-  -- the sensors, each with a timer, a phase, a level and a condition that agree
-  pub sensors : Table Sound freshSensor (d .«sensor_count») (d .sensors)
+  -- the sensors, each as it should be
+  pub sensors : Table SensorFits freshSensor (d .«sensor_count») (d .sensors)
 
 pub record Reached (d : Drive) : Type 0 where
   -- "Settling, after every event and tick": to settle the bands once more changes nothing

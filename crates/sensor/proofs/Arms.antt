@@ -2,19 +2,20 @@
 use mathlib.Core.Path.{_≡_, refl, sym, ap, _∙_}
 use Prim.Native.Nat.{ℕ, _-_, _<_, _≤_}
 use native.Mathlib.Omega.{arith}
-use mathlib.Core.Bool.{Bool, true, false, cond, Bool·beq, false≢true, true≢false}
+use mathlib.Core.Bool.{Bool, true, false, not, cond, Bool·beq, false≢true, true≢false}
 use lib.Dec.{ltb, eqb}
 use borrow.Author.Tests.{le-ltb, eq-eqb, ne-eqb}
-use Rattle.base.proofs.Cases.{cond-true, cond-false}
+use Rattle.base.proofs.Cases.{cond-true, cond-false, cond-not}
 use Rattle.phases.specs.declared.Phase.{Phase}
 use Rattle.phases.specs.declared.Move.{Move}
 use Rattle.phases.specs.declared.Move.the-variants.{Stays, Enters}
 use Rattle.phases.specs.declared.Cause.{Cause}
+use Rattle.phases.specs.declared.Cause.the-variants.{PowerCycle}
 use Rattle.sensor.specs.declared.single.Sensor.{Sensor}
 use Rattle.phases.specs.Phases.{phaseNumber, moveOf, numberAfter, levelAfter}
-use Rattle.sensor.specs.Single.{withLevel, movedBy, entering, afterCause, turnCause, turnedTo, judgeOf, readingOf, readingAnswer, withTimer}
+use Rattle.sensor.specs.Single.{withLevel, movedBy, entering, afterCause, turnCause, turnedTo, onOf, offOf, keeping, forgetting, levelOf, judged, readingOf, readingAnswer, powerCycleOf, withTimer}
 use Rattle.sensor.specs.Parts.{quietOf, loweredBy}
-use Rattle.sensor.specs.Level.{greatestReading}
+use Rattle.sensor.specs.Level.{greatestReading, levelRule}
 
 -- a step: the level, and then the move
 
@@ -50,9 +51,24 @@ beq-true true true e = refl
 beq-true true false e = refl
 beq-true false b e = absurd (false≢true e)
 
-pub judged : (v : ℕ) (s r : Sensor) (l : Bool) → v ≤ greatestReading → l ≡ judgeOf v s → r ≡ turnedTo l s → r ≡ readingOf v s
+-- the level that the last reading gives
+
+pub given-none : (s : Sensor) → not (s .«has_reading») ≡ true → s .level ≡ levelOf s
+unfolding levelOf
+given-none s e = cond-true (not (s .«has_reading»)) _ _ _ e refl ∙ sym (cond-not (s .«has_reading») _ _)
+
+pub given-last : (s : Sensor) (on off : ℕ) (l : Bool) → not (s .«has_reading») ≡ false → on ≡ onOf s → off ≡ offOf s
+    → l ≡ levelRule on off (s .«last_reading») (s .level) → l ≡ levelOf s
+unfolding levelOf
+given-last s on off l e a b q = cond-false (not (s .«has_reading»)) _ _ _ e (q ∙ rw (a, b)) ∙ sym (cond-not (s .«has_reading») _ _)
+
+pub judges : (s r : Sensor) (l : Bool) → l ≡ levelOf s → r ≡ turnedTo l s → r ≡ judged s
+unfolding judged
+judges s r l e q = q ∙ ap (λ (x : Bool). turnedTo x s) e
+
+pub reads : (v : ℕ) (s k r : Sensor) → v ≤ greatestReading → k ≡ keeping v s → r ≡ judged k → r ≡ readingOf v s
 unfolding readingOf
-judged v s r l h e q = cond-false (ltb greatestReading v) _ _ _ (le-ltb greatestReading v h) (q ∙ ap (λ (x : Bool). turnedTo x s) e)
+reads v s k r h e q = cond-false (ltb greatestReading v) _ _ _ (le-ltb greatestReading v h) (q ∙ ap judged e)
 
 pub in-range : (v : ℕ) → v ≤ greatestReading → 0 ≡ readingAnswer v
 in-range v h = cond-false (ltb greatestReading v) _ _ _ (le-ltb greatestReading v h) refl
@@ -62,9 +78,14 @@ pub reading-refused : (v : ℕ) (s : Sensor) → eqb (readingAnswer v) 0 ≡ fal
 unfolding readingOf
 reading-refused v s e = go (ltb greatestReading v) e
   where
-    go : (b : Bool) → eqb (cond b 2 0) 0 ≡ false → cond b s (turnedTo (judgeOf v s) s) ≡ s
+    go : (b : Bool) → eqb (cond b 2 0) 0 ≡ false → cond b s (judged (keeping v s)) ≡ s
     go true e = refl
     go false e = absurd (true≢false e)
+
+-- a power cycle: the table's move, and the last reading forgotten
+pub cycled : (s n r : Sensor) → n ≡ afterCause PowerCycle s → r ≡ forgetting n → r ≡ powerCycleOf s
+unfolding powerCycleOf
+cycled s n r e q = q ∙ ap forgetting e
 
 -- the ticks before the end of a timer
 

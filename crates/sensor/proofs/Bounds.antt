@@ -1,7 +1,7 @@
 -- The bounds of timers: no timeout and no timer of a sensor that events reach exceeds the range of timeouts.
 use Prim.Native.Nat.{ℕ, _-_, _≤_}
 use native.Mathlib.Omega.{arith}
-use mathlib.Core.Bool.{Bool, cond, Bool·beq}
+use mathlib.Core.Bool.{Bool, true, false, cond, Bool·beq}
 use lib.Dec.{eqb, ltb}
 use Rattle.base.proofs.Cases.{cond-both}
 use Rattle.phases.specs.declared.Phase.{Phase}
@@ -13,7 +13,7 @@ use Rattle.phases.specs.declared.Cause.the-variants.{TimerEnds, Disabled, Power
 use Rattle.phases.specs.Phases.{moveOf, levelAfter}
 use Rattle.sensor.specs.declared.single.Sensor.{Sensor}
 use Rattle.sensor.specs.Level.{greatestReading}
-use Rattle.sensor.specs.Single.{greatestNumber, freshSensor, withLevel, withTimer, timerIn, movedBy, afterCause, judgeOf, turnCause, turnedTo, readingOf, enableCause, enableOf, disableOf, powerCycleOf, sensorTick}
+use Rattle.sensor.specs.Single.{greatestNumber, freshSensor, withLevel, withTimer, timerIn, movedBy, afterCause, withReading, keeping, levelOf, judged, turnCause, turnedTo, readingOf, enableCause, enableOf, disableOf, powerCycleOf, sensorTick}
 use Rattle.sensor.specs.Sound.{Timed}
 
 pub fresh-timed : Timed freshSensor
@@ -36,11 +36,18 @@ step-timed : (c : Cause) (s : Sensor) → Timed s → Timed (afterCause c s)
 unfolding afterCause
 step-timed c s h = moved-timed (moveOf (s .phase) c) (levelAfter c (s .level)) s h
 
+pub judged-timed : (s : Sensor) → Timed s → Timed (judged s)
+unfolding judged turnedTo
+judged-timed s h =
+    cond-both Timed (Bool·beq (levelOf s) (s .level)) s (afterCause (turnCause (levelOf s) s) s) h (step-timed (turnCause (levelOf s) s) s h)
+
+kept-timed : (has : Bool) (v : ℕ) (s : Sensor) → Timed s → Timed (withReading has v s)
+kept-timed has v s h = record { on = h .on; off = h .off; timer = h .timer }
+
 pub reading-timed : (v : ℕ) (s : Sensor) → Timed s → Timed (readingOf v s)
-unfolding readingOf turnedTo
+unfolding readingOf
 reading-timed v s h =
-    cond-both Timed (ltb greatestReading v) s (turnedTo (judgeOf v s) s) h
-    (cond-both Timed (Bool·beq (judgeOf v s) (s .level)) s (afterCause (turnCause (judgeOf v s) s) s) h (step-timed (turnCause (judgeOf v s) s) s h))
+    cond-both Timed (ltb greatestReading v) s (judged (keeping v s)) h (judged-timed (keeping v s) (kept-timed true v s h))
 
 pub tick-timed : (s : Sensor) → Timed s → Timed (sensorTick s)
 unfolding sensorTick
@@ -51,7 +58,7 @@ tick-timed s h =
 
 pub cycle-timed : (s : Sensor) → Timed s → Timed (powerCycleOf s)
 unfolding powerCycleOf
-cycle-timed s h = step-timed PowerCycle s h
+cycle-timed s h = kept-timed false 0 (afterCause PowerCycle s) (step-timed PowerCycle s h)
 
 pub enable-timed : (s : Sensor) → Timed s → Timed (enableOf s)
 unfolding enableOf

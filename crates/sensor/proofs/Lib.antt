@@ -3,6 +3,7 @@ pub mod Motion
 pub mod Ticks
 pub mod Soundness
 pub mod Levels
+pub mod Judging
 pub mod Lag
 pub mod Bounds
 pub mod Worked

@@ -24,7 +24,7 @@ use Rattle.phases.specs.declared.Cause.the-variants.{
 }
 use Rattle.sensor.specs.declared.single.Sensor.{Sensor}
 use Rattle.phases.specs.Phases.{isEnabled, whenEnabled, whenDisabled, powerCycled, conditionIn, moveOf, settled, levelAfter}
-use Rattle.sensor.specs.Single.{freshSensor, moved, movedBy, withLevel, withTimer, afterCause, timerIn, turnCause, turnedTo, enableOf, sensorTick, powerCycleOf}
+use Rattle.sensor.specs.Single.{freshSensor, standing, moved, forgetting, movedBy, withLevel, withTimer, afterCause, timerIn, turnCause, turnedTo, enableOf, sensorTick, powerCycleOf}
 use Rattle.sensor.specs.Turning.{timeoutTo, waitingAt, settledAt, Turning}
 use Rattle.sensor.specs.Parts.{loweredBy}
 
@@ -81,11 +81,37 @@ off-step true false s e = rw e
 off-step false true s e = rw e
 off-step false false s e = rw e
 
-same-level : (a b : Bool) → Bool·beq a b ≡ true → b ≡ a
+pub same-level : (a b : Bool) → Bool·beq a b ≡ true → b ≡ a
 same-level true true e = refl
 same-level true false e = e
 same-level false true e = sym e
 same-level false false e = refl
+
+-- ---- the level after a turn
+
+pub move-level : (m : Move) (s : Sensor) → movedBy m s .level ≡ s .level
+move-level Stays s = refl
+move-level (Enters p) s = refl
+
+pub turn-level : (l : Bool) (s : Sensor) → levelAfter (turnCause l s) (s .level) ≡ l
+turn-level true s = go (eqb (s .«on_timeout») 0)
+  where
+    go : (atOnce : Bool) → levelAfter (cond atOnce TrueAtOnce TrueWaiting) (s .level) ≡ true
+    go true = refl
+    go false = refl
+turn-level false s = go (eqb (s .«off_timeout») 0)
+  where
+    go : (atOnce : Bool) → levelAfter (cond atOnce FalseAtOnce FalseWaiting) (s .level) ≡ false
+    go true = refl
+    go false = refl
+
+pub turned-level : (l : Bool) (s : Sensor) → turnedTo l s .level ≡ l
+unfolding turnedTo afterCause
+turned-level l s = go (Bool·beq l (s .level)) refl
+  where
+    go : (b : Bool) → Bool·beq l (s .level) ≡ b → cond b s (afterCause (turnCause l s) s) .level ≡ l
+    go true e = same-level l (s .level) e
+    go false e = move-level (moveOf (s .phase) (turnCause l s)) (withLevel (levelAfter (turnCause l s) (s .level)) s) ∙ turn-level l s
 
 turn-off : (l : Bool) (s : Sensor) → s .phase ≡ SS0 → turnedTo l s ≡ withLevel l s
 unfolding turnedTo
@@ -161,21 +187,27 @@ fresh-power-cycle = refl
 
 -- ---- what a power cycle leaves as it is
 
-as-it-is : (p : Phase) (s : Sensor) → s .level ≡ false → s .phase ≡ p → s .condition ≡ false → s .timer ≡ 0 → moved false p false 0 s ≡ s
-as-it-is p s a b c d = λ i. moved (sym a i) (sym b i) (sym c i) (sym d i) s
+as-it-is : (p : Phase) (s : Sensor) → s .level ≡ false → s .phase ≡ p → s .condition ≡ false → s .timer ≡ 0 → s .«has_reading» ≡ false → s .«last_reading» ≡ 0
+    → standing false p false 0 false 0 s ≡ s
+as-it-is p s a b c d e f = λ i. standing (sym a i) (sym b i) (sym c i) (sym d i) (sym e i) (sym f i) s
 
--- nothing is TRUE and no timer runs, in a phase that a power cycle enters anew
-module _ (s : Sensor) (a : s .level ≡ false) (c : s .condition ≡ false) (d : s .timer ≤ 0) where
+-- nothing is TRUE, no timer runs and there is no last reading, in a phase that a power cycle enters anew
+module _ (s : Sensor) (a : s .level ≡ false) (c : s .condition ≡ false) (d : s .timer ≤ 0) (e : s .«has_reading» ≡ false) (f : s .«last_reading» ≤ 0) where
   zero-timer : s .timer ≡ 0
   zero-timer = omega (arith, d)
 
+  zero-reading : s .«last_reading» ≡ 0
+  zero-reading = omega (arith, f)
+
   pub rests-disabled : s .phase ≡ SS0 → powerCycleOf s ≡ s
   unfolding powerCycleOf afterCause moveOf
-  rests-disabled e = ap (λ (p : Phase). movedBy (moveOf p PowerCycle) (withLevel false s)) e ∙ as-it-is SS0 s a e c zero-timer
+  rests-disabled p =
+      ap (λ (q : Phase). forgetting (movedBy (moveOf q PowerCycle) (withLevel false s))) p ∙ as-it-is SS0 s a p c zero-timer e zero-reading
 
   pub rests-settled : s .phase ≡ SS2 → powerCycleOf s ≡ s
   unfolding powerCycleOf afterCause moveOf
-  rests-settled e = ap (λ (p : Phase). movedBy (moveOf p PowerCycle) (withLevel false s)) e ∙ as-it-is SS2 s a e c zero-timer
+  rests-settled p =
+      ap (λ (q : Phase). forgetting (movedBy (moveOf q PowerCycle) (withLevel false s))) p ∙ as-it-is SS2 s a p c zero-timer e zero-reading
 
 -- the phases that a power cycle enters
 abbrev isEntered : Phase → Bool
@@ -185,7 +217,7 @@ isEntered SS1 = false
 isEntered ST1 = false
 isEntered SS2 = true
 
--- and nothing else: a power cycle that leaves the sensor as it is finds nothing TRUE, no timer, and one of the two phases
+-- and nothing else: a power cycle that leaves the sensor as it is finds nothing TRUE, no timer, no last reading, and one of the two phases
 module _ (s : Sensor) (h : powerCycleOf s ≡ s) where
   cycled-phase : s .phase ≡ powerCycled (s .phase)
   unfolding powerCycleOf afterCause moveOf
@@ -210,6 +242,14 @@ module _ (s : Sensor) (h : powerCycleOf s ≡ s) where
       none : (b : Bool) → timerIn (cond b SS2 SS0) (withLevel false s) ≡ 0
       none true = refl
       none false = refl
+
+  pub reading-told : s .«has_reading» ≡ true → false ≡ true
+  unfolding powerCycleOf
+  reading-told e = ap (λ (x : Sensor). x .«has_reading») h ∙ e
+
+  pub blank-told : 0 < s .«last_reading» → false ≡ true
+  unfolding powerCycleOf
+  blank-told l = absurd (omega (arith, l, ap (λ (x : Sensor). x .«last_reading») h))
 
   pub phase-told : (p : Phase) → s .phase ≡ p → isEntered p ≡ false → false ≡ true
   phase-told p e q = sym q ∙ ap isEntered (sym e ∙ cycled-phase) ∙ both (isEnabled (s .phase))

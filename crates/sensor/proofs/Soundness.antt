@@ -26,7 +26,7 @@ use Rattle.phases.specs.declared.Cause.the-variants.{
 use Rattle.sensor.specs.declared.single.Sensor.{Sensor}
 use Rattle.phases.specs.Phases.{conditionIn, whenEnabled, whenDisabled, settled, powerCycled, moveOf}
 use Rattle.sensor.specs.Level.{greatestReading}
-use Rattle.sensor.specs.Single.{freshSensor, moved, withLevel, withTimer, timerIn, entering, movedBy, afterCause, judgeOf, turnCause, turnedTo, readingOf, enableCause, enableOf, disableOf, powerCycleOf, sensorTick}
+use Rattle.sensor.specs.Single.{freshSensor, moved, withLevel, withTimer, timerIn, entering, movedBy, afterCause, withReading, keeping, levelOf, judged, turnCause, turnedTo, readingOf, enableCause, enableOf, disableOf, powerCycleOf, sensorTick}
 use Rattle.sensor.specs.Parts.{loweredBy}
 use Rattle.sensor.specs.Sound.{TimerAgrees, LevelAgrees, ConditionAgrees, Sound}
 use Rattle.sensor.proofs.Ticks.{QuietFor}
@@ -158,9 +158,19 @@ unfolding turnedTo
 turn-sound l s h =
     cond-either Sound (Bool·beq l (s .level)) s (afterCause (turnCause l s) s) (λ e. h) (λ e. step-sound (turnCause l s) s (turn-meets l s) h)
 
+pub judged-sound : (s : Sensor) → Sound s → Sound (judged s)
+unfolding judged
+judged-sound s h = turn-sound (levelOf s) s h
+
+-- a last reading says nothing of the phases
+kept-sound : (has : Bool) (v : ℕ) (s : Sensor) → Sound s → Sound (withReading has v s)
+kept-sound has v s h =
+    record { timer = h .timer; level = h .level; condition = h .condition; «on_fraction» = h .«on_fraction»; «off_fraction» = h .«off_fraction» }
+
 pub reading-sound : (v : ℕ) (s : Sensor) → Sound s → Sound (readingOf v s)
 unfolding readingOf
-reading-sound v s h = cond-either Sound (ltb greatestReading v) s (turnedTo (judgeOf v s) s) (λ e. h) (λ e. turn-sound (judgeOf v s) s h)
+reading-sound v s h =
+    cond-either Sound (ltb greatestReading v) s (judged (keeping v s)) (λ e. h) (λ e. judged-sound (keeping v s) (kept-sound true v s h))
 
 -- fewer ticks to go, and some left where the sensor waits
 later : (s : Sensor) (t : ℕ) (p : Phase) → (s .timer ≡ 0 → t ≡ 0) → (t ≡ 0 → s .timer ≡ 0) → TimerAgrees p (s .timer) → TimerAgrees p t
@@ -216,4 +226,4 @@ disable-sound s h = step-sound Disabled s tt h
 
 pub power-cycle-sound : (s : Sensor) → Sound s → Sound (powerCycleOf s)
 unfolding powerCycleOf
-power-cycle-sound s h = step-sound PowerCycle s tt h
+power-cycle-sound s h = kept-sound false 0 (afterCause PowerCycle s) (step-sound PowerCycle s tt h)

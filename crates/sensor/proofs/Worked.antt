@@ -3,56 +3,22 @@ use mathlib.Core.Path.{_≡_, refl, sym, ap, _∙_}
 use Prim.Native.Nat.{ℕ, _≤_}
 use native.Mathlib.Omega.{arith}
 use mathlib.Core.Bool.{Bool, true, false, cond, Bool·beq}
-use lib.Dec.{eqb}
 use borrow.Author.Tests.{le-ltb}
 use Rattle.base.specs.Ticks.{ticks}
-use Rattle.phases.specs.declared.Move.{Move}
-use Rattle.phases.specs.declared.Move.the-variants.{Stays, Enters}
-use Rattle.phases.specs.declared.Cause.the-variants.{TrueAtOnce, TrueWaiting, FalseAtOnce, FalseWaiting}
-use Rattle.phases.specs.Phases.{isEnabled, moveOf, levelAfter}
+use Rattle.phases.specs.Phases.{isEnabled, moveOf}
 use Rattle.sensor.specs.declared.single.Sensor.{Sensor}
 use Rattle.sensor.specs.Level.{greatestReading, levelRule}
-use Rattle.sensor.specs.Single.{onOf, offOf, moved, movedBy, withLevel, judgeOf, turnCause, turnedTo, readingOf, afterCause, sensorTick}
+use Rattle.sensor.specs.Single.{onOf, offOf, moved, keeping, levelOf, judged, turnedTo, readingOf, afterCause, sensorTick}
 use Rattle.sensor.proofs.Levels.{high-true, low-false, inside-keeps, high-false}
 use Rattle.sensor.specs.Turning.{waitingAt}
-use Rattle.sensor.proofs.Motion.{turn-waits}
+use Rattle.sensor.proofs.Motion.{turned-level, turn-waits}
 
 -- ---- levels
 
-move-level : (m : Move) (s : Sensor) → movedBy m s .level ≡ s .level
-move-level Stays s = refl
-move-level (Enters p) s = refl
-
-turn-level : (l : Bool) (s : Sensor) → levelAfter (turnCause l s) (s .level) ≡ l
-turn-level true s = go (eqb (s .«on_timeout») 0)
-  where
-    go : (atOnce : Bool) → levelAfter (cond atOnce TrueAtOnce TrueWaiting) (s .level) ≡ true
-    go true = refl
-    go false = refl
-turn-level false s = go (eqb (s .«off_timeout») 0)
-  where
-    go : (atOnce : Bool) → levelAfter (cond atOnce FalseAtOnce FalseWaiting) (s .level) ≡ false
-    go true = refl
-    go false = refl
-
-same-level : (a b : Bool) → Bool·beq a b ≡ true → b ≡ a
-same-level true true e = refl
-same-level true false e = e
-same-level false true e = sym e
-same-level false false e = refl
-
-pub turned-level : (l : Bool) (s : Sensor) → turnedTo l s .level ≡ l
-unfolding turnedTo afterCause
-turned-level l s = go (Bool·beq l (s .level)) refl
-  where
-    go : (b : Bool) → Bool·beq l (s .level) ≡ b → cond b s (afterCause (turnCause l s) s) .level ≡ l
-    go true e = same-level l (s .level) e
-    go false e = move-level (moveOf (s .phase) (turnCause l s)) (withLevel (levelAfter (turnCause l s) (s .level)) s) ∙ turn-level l s
-
 -- the level after a reading is the one that the rule gives
 pub reading-level : (v : ℕ) (s : Sensor) → v ≤ greatestReading → readingOf v s .level ≡ levelRule (onOf s) (offOf s) v (s .level)
-unfolding readingOf judgeOf
-reading-level v s h = rw (le-ltb greatestReading v h) (turned-level (judgeOf v s) s)
+unfolding readingOf judged levelOf
+reading-level v s h = rw (le-ltb greatestReading v h) (turned-level (levelOf (keeping v s)) (keeping v s))
 
 module _ (s : Sensor) where
   module _ (p : onOf s ≡ 5000) (q : offOf s ≡ 5000) where

@@ -1,8 +1,8 @@
--- Document 01, 'Sensors': one sensor, what each event and each tick makes of it. A sensor's phase says whether it is enabled, and its
+-- Document 01, 'Sensors', and document 02, #101: one sensor, what each event and each tick makes of it. A sensor's phase says whether it is enabled, and its
 -- timer runs where it is not 0; so every value of the type has a meaning, also one that no event reaches.
 use Prim.Native.Nat.{ℕ, _-_}
 use mathlib.Core.Path.{_≡_}
-use mathlib.Core.Bool.{Bool, false, cond, Bool·beq}
+use mathlib.Core.Bool.{Bool, true, false, cond, Bool·beq}
 use mathlib.Core.List.{List, [], _∷_}
 use lib.Dec.{eqb, ltb}
 use Rattle.base.specs.Refusals.{Refusal, when, firstOf}
@@ -25,7 +25,7 @@ greatestNumber = 4294967295
 abbrev pub greatestFraction : ℕ
 greatestFraction = 999
 
--- "Fresh: all columns 0, .. levels FALSE, phases SS0."
+-- "Fresh: all columns 0, .. levels FALSE, phases SS0."; #101: "its last reading, none before the first"
 unfoldable pub freshSensor : Sensor
 freshSensor = record {
   «on_threshold» = 0;
@@ -37,12 +37,14 @@ freshSensor = record {
   level = false;
   phase = SS0;
   condition = false;
+  «has_reading» = false;
   timer = 0;
+  «last_reading» = 0;
 }
 
--- the same columns, with another level, phase, condition and timer
-abbrev pub moved : Bool → Phase → Bool → ℕ → Sensor → Sensor
-moved l p c t s = record {
+-- the same columns, with another level, phase, condition, timer and last reading
+abbrev pub standing : Bool → Phase → Bool → ℕ → Bool → ℕ → Sensor → Sensor
+standing l p c t has last s = record {
   «on_threshold» = s .«on_threshold»;
   «on_fraction» = s .«on_fraction»;
   «on_timeout» = s .«on_timeout»;
@@ -52,14 +54,31 @@ moved l p c t s = record {
   level = l;
   phase = p;
   condition = c;
+  «has_reading» = has;
   timer = t;
+  «last_reading» = last;
 }
+
+-- the same columns and last reading, with another level, phase, condition and timer
+abbrev pub moved : Bool → Phase → Bool → ℕ → Sensor → Sensor
+moved l p c t s = standing l p c t (s .«has_reading») (s .«last_reading») s
 
 abbrev pub withLevel : Bool → Sensor → Sensor
 withLevel l s = moved l (s .phase) (s .condition) (s .timer) s
 
 abbrev pub withTimer : ℕ → Sensor → Sensor
 withTimer t s = moved (s .level) (s .phase) (s .condition) t s
+
+abbrev pub withReading : Bool → ℕ → Sensor → Sensor
+withReading has last s = standing (s .level) (s .phase) (s .condition) (s .timer) has last s
+
+-- #101: "A sensor row now keeps its last reading"
+abbrev pub keeping : ℕ → Sensor → Sensor
+keeping v s = withReading true v s
+
+-- #101: "none .. after a power cycle", as in the fresh sensor
+abbrev pub forgetting : Sensor → Sensor
+forgetting s = withReading false 0 s
 
 -- "ST0 with the timer set to it", "ST1 with the timer set to it": the timer as a phase is entered. In the others no timer runs.
 abbrev pub timerIn : Phase → Sensor → ℕ
@@ -88,9 +107,9 @@ onOf s = thousandths (s .«on_threshold») (s .«on_fraction»)
 abbrev pub offOf : Sensor → ℕ
 offOf s = thousandths (s .«off_threshold») (s .«off_fraction»)
 
--- the level that a reading gives
-unfoldable pub judgeOf : ℕ → Sensor → Bool
-judgeOf v s = levelRule (onOf s) (offOf s) v (s .level)
+-- the level that the last reading gives by the level rule. #101: "With no reading the level stays."
+unfoldable pub levelOf : Sensor → Bool
+levelOf s = cond (s .«has_reading») (levelRule (onOf s) (offOf s) (s .«last_reading») (s .level)) (s .level)
 
 -- "When an enabled sensor's level turns TRUE: on-timeout 0 ..", "Turning FALSE: off-timeout 0 ..": which cause a turn is
 abbrev pub turnCause : Bool → Sensor → Cause
@@ -101,6 +120,10 @@ turnCause l s =
 unfoldable pub turnedTo : Bool → Sensor → Sensor
 turnedTo l s = cond (Bool·beq l (s .level)) s (afterCause (turnCause l s) s)
 
+-- #101: "judges that reading again by the level rule": the one judging, of a reading and of a Set
+unfoldable pub judged : Sensor → Sensor
+judged s = turnedTo (levelOf s) s
+
 -- 2 "out of range: a field exceeds its range": the refusals of a reading of a sensor that is there
 abbrev pub readingRefusals : ℕ → List Refusal
 readingRefusals v = when 2 (ltb greatestReading v) ∷ []
@@ -108,8 +131,9 @@ readingRefusals v = when 2 (ltb greatestReading v) ∷ []
 abbrev pub readingAnswer : ℕ → ℕ
 readingAnswer v = firstOf (readingRefusals v)
 
+-- a reading becomes the last one, and is judged; one that is refused is not kept
 unfoldable pub readingOf : ℕ → Sensor → Sensor
-readingOf v s = cond (ltb greatestReading v) s (turnedTo (judgeOf v s) s)
+readingOf v s = cond (ltb greatestReading v) s (judged (keeping v s))
 
 -- "Enabling with level TRUE acts as turning TRUE; with level FALSE it gives SS2.": which cause enabling is
 abbrev pub enableCause : Sensor → Cause
@@ -122,9 +146,10 @@ enableOf s = afterCause (enableCause s) s
 unfoldable pub disableOf : Sensor → Sensor
 disableOf s = afterCause Disabled s
 
--- "A power cycle then sets each level FALSE and each sensor to SS2 if enabled, else SS0, timers stopped, columns kept."
+-- "A power cycle then sets each level FALSE and each sensor to SS2 if enabled, else SS0, timers stopped, columns kept.";
+-- #101: "none .. after a power cycle"
 unfoldable pub powerCycleOf : Sensor → Sensor
-powerCycleOf s = afterCause PowerCycle s
+powerCycleOf s = forgetting (afterCause PowerCycle s)
 
 -- "One tick takes 1 from every running timer; those that reach 0 settle"
 unfoldable pub sensorTick : Sensor → Sensor

@@ -5,7 +5,8 @@ use mathlib.Core.Bool.{Bool, true, false}
 use Rattle.phases.specs.declared.Phase.{Phase}
 use Rattle.phases.specs.declared.Phase.the-variants.{SS0, ST0, SS1, ST1, SS2}
 use Rattle.sensor.specs.declared.single.Sensor.{Sensor}
-use Rattle.sensor.specs.Single.{greatestNumber, greatestFraction}
+use Rattle.sensor.specs.Level.{greatestReading}
+use Rattle.sensor.specs.Single.{greatestNumber, greatestFraction, levelOf}
 
 -- a timer runs exactly while the sensor waits
 abbrev pub TimerAgrees : Phase → ℕ → Type 0
@@ -37,6 +38,18 @@ pub record Sound (s : Sensor) : Type 0 where
   pub condition : ConditionAgrees (s .phase) (s .condition)
   pub «on_fraction» : s .«on_fraction» ≤ greatestFraction
   pub «off_fraction» : s .«off_fraction» ≤ greatestFraction
+
+-- A last reading in its range: "Readings are thousandths, 0 to 4,294,967,295,999.", and one that is refused is not kept. Where there is none, 0
+-- stands for it.
+pub record Kept (s : Sensor) : Type 0 where
+  pub range : s .«last_reading» ≤ greatestReading
+  pub blank : s .«has_reading» ≡ false → s .«last_reading» ≡ 0
+
+-- Document 02, #101: "Thresholds act when they are set." The level is the one that the last reading gives under the thresholds as they now
+-- are: no threshold waits for the next reading.
+pub record Judged (s : Sensor) : Type 0 where
+  pub level : levelOf s ≡ s .level
+  pub kept : Kept s
 
 -- "Thresholds and timeouts are 0 to 4,294,967,295": so no timer exceeds that either
 pub record Timed (s : Sensor) : Type 0 where

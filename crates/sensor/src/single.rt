@@ -3,14 +3,15 @@ ghost use mathlib.Core.Path.{_≡_};
 ghost use mathlib.Core.Bool.{true, Bool·beq};
 ghost use Rattle.phases.specs.Phases.{phaseNumber, moveOf, numberAfter};
 ghost use Rattle.sensor.specs.Level.{thousandths, levelRule};
-ghost use Rattle.sensor.specs.Single.{freshSensor, judgeOf, withLevel, withTimer, timerIn, entering, afterCause, turnCause, turnedTo, readingAnswer, readingOf, enableCause, enableOf, disableOf, powerCycleOf, sensorTick, runs, endsNext, Answers};
+ghost use Rattle.sensor.specs.Single.{freshSensor, withLevel, withTimer, keeping, forgetting, levelOf, judged, timerIn, entering, afterCause, turnCause, turnedTo, readingAnswer, readingOf, enableCause, enableOf, disableOf, powerCycleOf, sensorTick, runs, endsNext, Answers};
 ghost use Rattle.sensor.specs.Parts.{loweredBy, quietOf};
 use answer::Answer;
 use phases::Cause;
 use phases::Move;
 use phases::Phase;
 
-// The columns, and then what moves: a sensor is enabled where its phase is not SS0, and its timer runs where it is not 0.
+// The columns, and then what moves: a sensor is enabled where its phase is not SS0, its timer runs where it is not 0, and its last reading, in
+// thousandths, counts where it has one.
 pub struct Sensor {
     pub on_threshold: u32,
     pub on_fraction: u32,
@@ -21,7 +22,9 @@ pub struct Sensor {
     pub level: bool,
     pub phase: Phase,
     pub condition: bool,
+    pub has_reading: bool,
     pub timer: u32,
+    pub last_reading: u64,
 }
 
 // A reading's or a Set's answer, and the sensor after it.
@@ -48,17 +51,10 @@ impl Sensor {
             level: false,
             phase: Phase::SS0,
             condition: false,
+            has_reading: false,
             timer: 0,
+            last_reading: 0,
         }
-    }
-
-    // The level that a reading gives.
-    pub fn judge(self, value: u64) -> bool
-        ensures { λ r. ⌜ r ≡ judgeOf value self ⌝ }
-    {
-        let on = in_thousandths(self.on_threshold, self.on_fraction);
-        let off = in_thousandths(self.off_threshold, self.off_fraction);
-        level_after(on, off, value, self.level)
     }
 
     // The same sensor with another level.
@@ -75,6 +71,28 @@ impl Sensor {
     {
         self.timer = timer;
         self
+    }
+
+    // The same sensor with a value as its last reading.
+    fn keep(self, value: u64) -> Sensor
+        ensures { λ r. ⌜ r ≡ keeping value self ⌝ }
+    {
+        Sensor {
+            has_reading: true,
+            last_reading: value,
+            ..self
+        }
+    }
+
+    // The same sensor with no last reading, for which 0 stands.
+    fn forget(self) -> Sensor
+        ensures { λ r. ⌜ r ≡ forgetting self ⌝ }
+    {
+        Sensor {
+            has_reading: false,
+            last_reading: 0,
+            ..self
+        }
     }
 
     // The ticks to go of a sensor that enters a phase.
@@ -145,6 +163,26 @@ impl Sensor {
         self.step(cause)
     }
 
+    // The level that the last reading gives; with none the level stays.
+    fn level_given(self) -> bool
+        ensures { λ r. ⌜ r ≡ levelOf self ⌝ }
+    {
+        if !self.has_reading {
+            return self.level;
+        }
+        let on = in_thousandths(self.on_threshold, self.on_fraction);
+        let off = in_thousandths(self.off_threshold, self.off_fraction);
+        level_after(on, off, self.last_reading, self.level)
+    }
+
+    // The sensor once its last reading is judged by the level rule: what a reading and a Set of a threshold share.
+    pub fn judge(self) -> Sensor
+        ensures { λ r. ⌜ r ≡ judged self ⌝ }
+    {
+        let level = self.level_given();
+        self.turn_to(level)
+    }
+
     // A reading, in thousandths.
     pub fn reading(self, value: u64) -> SensorAnswer
         ensures { λ r. ⌜ Answers (readingAnswer value) (readingOf value self) r ⌝ }
@@ -155,8 +193,8 @@ impl Sensor {
                 sensor: self,
             };
         }
-        let level = self.judge(value);
-        let sensor = self.turn_to(level);
+        let kept = self.keep(value);
+        let sensor = kept.judge();
         SensorAnswer {
             answer: Answer::Done,
             sensor,
@@ -189,7 +227,7 @@ impl Sensor {
         self.step(Cause::Disabled)
     }
 
-    // Whether a power cycle leaves the sensor as it is: nothing TRUE, no timer, and disabled or settled FALSE.
+    // Whether a power cycle leaves the sensor as it is: nothing TRUE, no timer, disabled or settled FALSE, and no last reading.
     pub fn rests(self) -> bool
         ensures { λ r. ⌜ (r ≡ true → powerCycleOf self ≡ self) ⌝ }
         ensures only { λ r. ⌜ (powerCycleOf self ≡ self → r ≡ true) ⌝ }
@@ -201,6 +239,12 @@ impl Sensor {
             return false;
         }
         if 0 < self.timer {
+            return false;
+        }
+        if self.has_reading {
+            return false;
+        }
+        if 0 < self.last_reading {
             return false;
         }
         let phase = self.phase;
@@ -219,7 +263,8 @@ impl Sensor {
         if self.rests() {
             return self;
         }
-        self.step(Cause::PowerCycle)
+        let cycled = self.step(Cause::PowerCycle);
+        cycled.forget()
     }
 
     pub fn tick(self) -> Sensor

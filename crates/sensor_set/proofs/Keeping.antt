@@ -4,10 +4,11 @@ use Rattle.sensor.specs.Single.{freshSensor, powerCycleOf, sensorTick}
 use Rattle.sensor_set.specs.declared.SensorEvent.{SensorEvent}
 use Rattle.sensor_set.specs.declared.SensorEvent.the-variants as E
 use Rattle.sensor_set.specs.Columns.{sensorAfter}
-use Rattle.sensor.specs.Sound.{Sound, Timed}
+use Rattle.sensor.specs.Sound.{Sound, Timed, Judged}
 use Rattle.sensor.proofs.Soundness.{fresh-sound, tick-sound, reading-sound, power-cycle-sound}
 use Rattle.sensor.proofs.Bounds.{fresh-timed, tick-timed, reading-timed, cycle-timed}
-use Rattle.sensor_set.proofs.Sets.{set-sound, set-timed}
+use Rattle.sensor.proofs.Judging.{fresh-judged, tick-judged, reading-judged, power-cycle-judged}
+use Rattle.sensor_set.proofs.Sets.{set-sound, set-timed, set-judged}
 
 -- it holds of the fresh sensor, and whatever happens to a sensor leaves it so
 pub record Keeps (P : Sensor → Type 0) : Type 0 where
@@ -29,3 +30,10 @@ event-timed (E.Set c) = set-timed c
 
 pub keeps-timed : Keeps Timed
 keeps-timed = record { fresh = fresh-timed; event = event-timed; tick = tick-timed; cycle = cycle-timed }
+
+event-judged : (x : SensorEvent) (s : Sensor) → Judged s → Judged (sensorAfter x s)
+event-judged (E.Reading v) = reading-judged v
+event-judged (E.Set c) = set-judged c
+
+pub keeps-judged : Keeps Judged
+keeps-judged = record { fresh = fresh-judged; event = event-judged; tick = tick-judged; cycle = power-cycle-judged }

@@ -4,3 +4,4 @@ pub mod Sets
 pub mod Keeping
 pub mod Refused
 pub mod Rules
+pub mod Thresholds

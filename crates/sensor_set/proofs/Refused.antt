@@ -9,13 +9,13 @@ use Rattle.sensor_set.specs.declared.SensorColumns.{SensorColumns}
 use Rattle.sensor_set.specs.declared.SensorEvent.{SensorEvent}
 use Rattle.sensor_set.specs.declared.SensorEvent.the-variants as E
 use Rattle.sensor.proofs.Arms.{reading-refused}
-use Rattle.sensor_set.specs.Columns.{columnsFit, storedOf, switchedOf, setAnswer, setOf, sensorRefusals, sensorAnswer, sensorAfter}
+use Rattle.sensor_set.specs.Columns.{columnsFit, storedOf, rejudgedOf, switchedOf, setAnswer, setOf, sensorRefusals, sensorAnswer, sensorAfter}
 
 set-refused : (c : SensorColumns) (s : Sensor) → eqb (setAnswer c) 0 ≡ false → setOf c s ≡ s
 unfolding setOf
 set-refused c s e = go (columnsFit c) e
   where
-    go : (b : Bool) → eqb (cond (not b) 2 0) 0 ≡ false → cond b (switchedOf c (storedOf c s)) s ≡ s
+    go : (b : Bool) → eqb (cond (not b) 2 0) 0 ≡ false → cond b (switchedOf c (rejudgedOf c (storedOf c s))) s ≡ s
     go true e = absurd (true≢false e)
     go false e = refl
 

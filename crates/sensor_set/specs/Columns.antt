@@ -1,6 +1,6 @@
--- Document 01, 'Sensors': a Set of a sensor's columns.
+-- Document 01, 'Sensors', and document 02, #101: a Set of a sensor's columns.
 use Prim.Native.Nat.{ℕ}
-use mathlib.Core.Bool.{Bool, not, cond, _&&_}
+use mathlib.Core.Bool.{Bool, not, cond, _&&_, _||_}
 use mathlib.Core.List.{List, [], _∷_}
 use lib.Dec.{eqb, ltb}
 use Rattle.base.specs.Columns.{named, within}
@@ -9,7 +9,7 @@ use Rattle.sensor.specs.declared.single.Sensor.{Sensor}
 use Rattle.sensor_set.specs.declared.SensorColumns.{SensorColumns}
 use Rattle.sensor_set.specs.declared.SensorEvent.{SensorEvent}
 use Rattle.sensor_set.specs.declared.SensorEvent.the-variants as E
-use Rattle.sensor.specs.Single.{greatestNumber, greatestFraction, readingRefusals, readingOf, enableOf, disableOf}
+use Rattle.sensor.specs.Single.{greatestNumber, greatestFraction, judged, readingRefusals, readingOf, enableOf, disableOf}
 
 -- the masks of seven bits are those below
 abbrev pub sensorMasks : ℕ
@@ -35,7 +35,7 @@ setRefusals c = when 2 (not (columnsFit c)) ∷ []
 abbrev pub setAnswer : SensorColumns → ℕ
 setAnswer c = firstOf (setRefusals c)
 
--- the named columns stored. "A running timer ignores a changed timeout.", and the level waits for the next reading.
+-- the named columns stored. "A running timer ignores a changed timeout."
 unfoldable pub storedOf : SensorColumns → Sensor → Sensor
 storedOf c s =
     let m = c .mask in
@@ -49,16 +49,26 @@ storedOf c s =
       level = s .level;
       phase = s .phase;
       condition = s .condition;
+      «has_reading» = s .«has_reading»;
       timer = s .timer;
+      «last_reading» = s .«last_reading»;
     }
+
+-- #101: "A Set that names a threshold or fraction", by its mask
+abbrev pub namesThreshold : ℕ → Bool
+namesThreshold m = (named 2 m || named 4 m) || (named 16 m || named 32 m)
+
+-- "judges that reading again by the level rule": the last reading, by the columns as they now are
+unfoldable pub rejudgedOf : SensorColumns → Sensor → Sensor
+rejudgedOf c s = cond (namesThreshold (c .mask)) (judged s) s
 
 -- the sensor enabled or disabled, where the Set names it
 unfoldable pub switchedOf : SensorColumns → Sensor → Sensor
 switchedOf c s = cond (named 1 (c .mask)) (cond (eqb (c .enabled) 1) (enableOf s) (disableOf s)) s
 
--- "A Set stores all its columns before it enables."
+-- "A Set stores all its columns before it enables."; #101: it judges "after its columns are stored and before it enables"
 unfoldable pub setOf : SensorColumns → Sensor → Sensor
-setOf c s = cond (columnsFit c) (switchedOf c (storedOf c s)) s
+setOf c s = cond (columnsFit c) (switchedOf c (rejudgedOf c (storedOf c s))) s
 
 -- ---- the events on one sensor that is there: a reading, and a Set
 

@@ -1,9 +1,9 @@
-// A Set of one sensor's columns (document 01, 'Sensors'): its answer and the sensor after it.
+// A Set of one sensor's columns (document 01, 'Sensors'; document 02, #101): its answer and the sensor after it.
 ghost use mathlib.Core.Path.{_≡_};
 ghost use mathlib.Core.Bool.{true, cond};
 ghost use Rattle.base.specs.Columns.{named, within};
 ghost use Rattle.sensor.specs.Single.{greatestNumber, Answers};
-ghost use Rattle.sensor_set.specs.Columns.{columnsFit, setAnswer, storedOf, switchedOf, setOf};
+ghost use Rattle.sensor_set.specs.Columns.{columnsFit, setAnswer, storedOf, namesThreshold, rejudgedOf, switchedOf, setOf};
 use answer::Answer;
 use sensor::Sensor;
 use sensor::SensorAnswer;
@@ -64,6 +64,16 @@ impl SensorColumns {
         }
         base::in_range(mask, 64, self.off_timeout, SensorColumns::NUMBER)
     }
+
+    // Whether the mask names a threshold or a fraction.
+    fn names_threshold(self) -> bool
+        ensures { λ r. ⌜ r ≡ namesThreshold (self .mask) ⌝ }
+    {
+        let mask = self.mask;
+        let on = base::or(base::names(mask, 2), base::names(mask, 4));
+        let off = base::or(base::names(mask, 16), base::names(mask, 32));
+        base::or(on, off)
+    }
 }
 
 // The sensor with the named columns stored.
@@ -83,8 +93,20 @@ fn store(one: Sensor, columns: SensorColumns) -> Sensor
         level: one.level,
         phase,
         condition: one.condition,
+        has_reading: one.has_reading,
         timer: one.timer,
+        last_reading: one.last_reading,
     }
+}
+
+// The sensor once its last reading is judged again, where the Set names a threshold or a fraction.
+fn rejudge(one: Sensor, columns: SensorColumns) -> Sensor
+    ensures { λ r. ⌜ r ≡ rejudgedOf columns one ⌝ }
+{
+    if columns.names_threshold() {
+        return one.judge();
+    }
+    one
 }
 
 // The sensor enabled or disabled, where the Set names it.
@@ -106,7 +128,8 @@ pub fn set(one: Sensor, columns: SensorColumns) -> SensorAnswer
 {
     if columns.fit() {
         let stored = store(one, columns);
-        let sensor = switch(stored, columns);
+        let judged = rejudge(stored, columns);
+        let sensor = switch(judged, columns);
         return SensorAnswer {
             answer: Answer::Done,
             sensor,

@@ -1,4 +1,4 @@
-// Prints the table of moves and then seven runs of one sensor, from the fresh one. A line of a run is an answer and then the sensor's
+// Prints the table of moves and then nine runs of one sensor, from the fresh one. A line of a run is an answer and then the sensor's
 // level, phase, condition and ticks to go, as in the listing.
 use phases::Cause;
 use phases::Move;
@@ -152,7 +152,7 @@ fn turns_while_waiting() {
     power_cycle(s);
 }
 
-// Disabled: readings move the level alone. Enabling with either level, and thresholds that wait for the next reading.
+// Disabled: readings move the level alone. Enabling with either level, and thresholds that turn an enabled sensor.
 fn disabled() {
     io::write_all(1, b"disabled\n");
     let s = read(Sensor::fresh(), 7);
@@ -169,6 +169,41 @@ fn disabled() {
     let s = set(s, 1, 0);
     let s = power_cycle(s);
     set(s, 1, 1);
+}
+
+// Sets that judge the last reading, 4,000: of thresholds and fractions, with the timeouts of the same Set, and with a value that was there.
+// Timeouts alone judge nothing, a refused reading is not kept, and a power cycle forgets.
+fn thresholds() {
+    io::write_all(1, b"thresholds\n");
+    let s = set_all(Sensor::fresh(), 5, 0, 3, 5, 0, 2);
+    let s = read(s, 4_000);
+    let s = set(s, 18, 4);
+    let s = set(s, 72, 9);
+    let s = tick(s);
+    let s = set(s, 4, 1);
+    let s = set(s, 32, 1);
+    let s = set(s, 18, 3);
+    let s = read(s, 4_294_967_296_000);
+    let s = set(s, 2, 3);
+    let s = set(s, 82, 7);
+    let s = power_cycle(s);
+    let s = set(s, 18, 0);
+    read(s, 4_000);
+}
+
+// The same of a disabled sensor: the level turns alone, and a Set that enables too judges first.
+fn thresholds_disabled() {
+    io::write_all(1, b"thresholds, disabled\n");
+    let s = read(Sensor::fresh(), 4_000);
+    let s = set(s, 18, 9);
+    let s = set(s, 8, 9);
+    let s = set(s, 19, 1);
+    let s = set(s, 1, 0);
+    let s = set_all(s, 9, 0, 9, 9, 0, 7);
+    let s = set(s, 1, 0);
+    let s = set(s, 128, 1);
+    let s = set(s, 18, 4);
+    power_cycle(s);
 }
 
 // Sets that are refused, one for each range, and values that are not named.
@@ -227,5 +262,7 @@ fn main() {
     waits();
     turns_while_waiting();
     disabled();
+    thresholds();
+    thresholds_disabled();
     refused_sets();
 }

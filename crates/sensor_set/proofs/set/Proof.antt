@@ -6,14 +6,8 @@ use borrow.Author.Needs.{needs}
 use Rattle.sensor_set.proofs.set.Statement.{statement}
 use Rattle.sensor_set.proofs.set.Tie as tie
 
-fit-requires : tie.Need-fit-requires
-fit-requires c κs = search needs
-
 store-requires : tie.Need-store-requires
 store-requires c κs = sym (c .before .fit .ensures) ∙ c .if1 .taken
-
-switch-requires : tie.Need-switch-requires
-switch-requires c κs = search needs
 
 returns : tie.Need-returns
 returns c = search (set-granted, set-done, needs)
@@ -23,4 +17,12 @@ unfolding setOf
 returns-2 c = search (set-refused, calls)
 
 pub set-spec : {M : Type 1} → statement M
-set-spec = tie.close (tie.spec fit-requires store-requires switch-requires returns returns-2)
+set-spec =
+    tie.close
+    (tie.spec
+    (λ c κs. search needs)
+    store-requires
+    (λ c κs. search needs)
+    (λ c κs. search needs)
+    returns
+    returns-2)

@@ -1,12 +1,13 @@
-//! What the tests reached: answers, stops, moves of phases, places, and ways to be bad.
+//! What the tests reached: answers, stops, moves of phases and levels, Sets of thresholds, places, and ways to be bad.
 use crate::scripts::{Damage, DAMAGES};
 use std::collections::{BTreeMap, BTreeSet};
 
 const PHASES: [&str; 5] = ["SS0", "ST0", "SS1", "ST1", "SS2"];
 const KINDS: [&str; 7] = ["reading", "elapse", "reset", "sensor Set", "band Set", "geometry", "transfer"];
 
-/// Every move that document 01 has, by the kind of event, from and to: nothing else may happen.
-const MOVES: [(u64, u8, u8); 20] = [
+/// Every move that there is, by the kind of event, from and to: nothing else may happen. Since #101 a Set moves an enabled sensor as a reading
+/// does, and SS0 to ST1 is none of its moves.
+const MOVES: [(u64, u8, u8); 28] = [
     (1, 1, 3),
     (1, 1, 4),
     (1, 2, 3),
@@ -24,10 +25,31 @@ const MOVES: [(u64, u8, u8); 20] = [
     (4, 0, 2),
     (4, 0, 4),
     (4, 1, 0),
+    (4, 1, 3),
+    (4, 1, 4),
     (4, 2, 0),
+    (4, 2, 3),
+    (4, 2, 4),
     (4, 3, 0),
+    (4, 3, 1),
+    (4, 3, 2),
     (4, 4, 0),
+    (4, 4, 1),
+    (4, 4, 2),
 ];
+
+/// What turns the level of a sensor that stays disabled, and to what: readings, a power cycle, and since #101 Sets.
+const TURNS: [(u64, u8); 5] = [(1, 0), (1, 1), (3, 0), (4, 0), (4, 1)];
+
+/// What a Set that names a threshold or a fraction finds of its sensor (#101).
+#[derive(Clone, Copy, Debug, Default, PartialEq, Eq, PartialOrd, Ord)]
+pub enum Found {
+    #[default]
+    NoReading,
+    Reading,
+    /// The reading before a power cycle is forgotten.
+    PowerCycle,
+}
 
 #[derive(Default)]
 pub struct Coverage {
@@ -42,6 +64,9 @@ pub struct Coverage {
     stops: BTreeMap<u8, u64>,
     moves: BTreeMap<(u64, u8, u8), u64>,
     stays: [u64; 5],
+    turns: BTreeMap<(u64, u8), u64>,
+    /// By what the Set finds, and whether a reading was refused after that.
+    thresholds: BTreeMap<(Found, bool), u64>,
     places: BTreeSet<usize>,
     at_zero: u64,
     damages: BTreeMap<Damage, [u64; 2]>,
@@ -85,6 +110,19 @@ impl Coverage {
         *self.moves.entry((kind, from, to)).or_default() += 1;
     }
 
+    /// The level of a sensor that is disabled before and after an event.
+    pub fn level(&mut self, kind: u64, from: u8, to: u8) {
+        if from != to {
+            assert!(TURNS.contains(&(kind, to)), "no such turn: kind {kind}, to {to}");
+            *self.turns.entry((kind, to)).or_default() += 1;
+        }
+    }
+
+    /// A Set of a threshold or a fraction that is done.
+    pub fn threshold(&mut self, found: Found, refused: bool) {
+        *self.thresholds.entry((found, refused)).or_default() += 1;
+    }
+
     pub fn damage(&mut self, how: Damage, bad: Option<usize>) {
         self.damages.entry(how).or_default()[bad.is_some() as usize] += 1;
     }
@@ -102,6 +140,12 @@ impl Coverage {
             println!("phase {} to {} by {}: {n}", PHASES[from as usize], PHASES[to as usize], KINDS[kind as usize - 1]);
         }
         println!("phase kept, by phase: {:?}", self.stays);
+        for (&(kind, to), n) in &self.turns {
+            println!("level of a disabled sensor to {to} by {}: {n}", KINDS[kind as usize - 1]);
+        }
+        for ((found, refused), n) in &self.thresholds {
+            println!("threshold set, found {found:?}, a reading refused since: {refused}: {n}");
+        }
         let last = self.places.last().unwrap();
         println!("places: {} at 0, {} different ones, the last {last}", self.at_zero, self.places.len());
         for (how, [good, bad]) in &self.damages {
@@ -110,6 +154,8 @@ impl Coverage {
         assert!(self.answers.iter().all(|&n| n > 0), "an answer was not reached");
         assert!(self.calls[0] > 0 && self.calls[10] > 0 && self.calls[11] > 0, "an answer of a run was not reached");
         assert!(MOVES.iter().all(|m| self.moves.contains_key(m)), "a move was not reached");
+        assert!(TURNS.iter().all(|t| self.turns.contains_key(t)), "a turn of a disabled sensor was not reached");
+        assert_eq!(self.thresholds.len(), 6, "a Set of a threshold was not reached");
         assert!(self.stays.iter().all(|&n| n > 0), "a phase was not reached");
         assert!(
             DAMAGES.iter().all(|d| self.damages.get(d).is_some_and(|n| n[1] > 0)),

@@ -12,10 +12,10 @@ mod scripts;
 mod tokens;
 
 use drive_native::engine::Lister;
-use coverage::Coverage;
+use coverage::{Coverage, Found};
 use library::{Answered, Ran, Told, UNWRITTEN};
 use random::Random;
-use scripts::{Damage, Script, DAMAGES};
+use scripts::{Damage, Event, Script, DAMAGES};
 
 /// The greatest header: capacity, bands and sensors.
 const GREATEST: [u64; 3] = [1 << 48, 16, 16];
@@ -35,14 +35,15 @@ struct Listing {
     text: Vec<u8>,
     answers: Vec<u8>,
     stops: Vec<u8>,
-    phases: Vec<u8>,
+    /// The level and the phase of each sensor.
+    sensors: Vec<[u8; 2]>,
     bad: Option<usize>,
 }
 
 impl Listing {
     fn of(lister: &mut Lister, script: &[u8]) -> Listing {
         let text = lister.list(script).to_vec();
-        let mut all = Listing { text: vec![], answers: vec![], stops: vec![], phases: vec![], bad: None };
+        let mut all = Listing { text: vec![], answers: vec![], stops: vec![], sensors: vec![], bad: None };
         for line in std::str::from_utf8(&text).unwrap().lines() {
             let words: Vec<&str> = line.split(' ').collect();
             let number = |i: usize| words[i].parse::<usize>().unwrap();
@@ -51,7 +52,7 @@ impl Listing {
                     all.answers.push(number(2) as u8);
                     all.stops.push(number(3) as u8);
                 }
-                "s" => all.phases.push(number(3) as u8),
+                "s" => all.sensors.push([number(2) as u8, number(3) as u8]),
                 "f" => all.bad = Some(number(1)),
                 _ => {}
             }
@@ -117,17 +118,44 @@ fn compare(r: &mut Random, lister: &mut Lister, script: &[u8], reached: &mut Cov
     expected
 }
 
-/// The moves of each sensor's phase at each event, from the listings of what the script begins with; one of these is compared too.
+/// What is known of a sensor's readings: what a Set of a threshold finds, and whether one was refused since.
+type Readings = [(Found, bool); 16];
+
+/// Takes note of an event that was answered: of a reading, of a power cycle, and of a Set that names a threshold or a fraction.
+fn note(readings: &mut Readings, event: &Event, answer: u8, reached: &mut Coverage) {
+    match (event.kind, answer) {
+        (1, 0) => readings[event.fields[0] as usize] = (Found::Reading, false),
+        (1, 2) => readings[event.fields[0] as usize].1 = true,
+        (3, 0) if event.fields[0] == 0 => {
+            for one in readings {
+                let found = if one.0 == Found::NoReading { Found::NoReading } else { Found::PowerCycle };
+                *one = (found, false);
+            }
+        }
+        (4, 0) if event.fields[1] & (2 | 4 | 16 | 32) != 0 => {
+            let (found, refused) = readings[event.fields[0] as usize];
+            reached.threshold(found, refused);
+        }
+        _ => {}
+    }
+}
+
+/// The moves of each sensor at each event, from the listings of what the script begins with; one of these is compared too.
 fn follow(r: &mut Random, lister: &mut Lister, script: &Script, reached: &mut Coverage) {
     let bytes = script.bytes();
     let places = script.places();
-    let mut before = Listing::of(lister, &bytes[..places[0]]).phases;
+    let mut readings = Readings::default();
+    let mut before = Listing::of(lister, &bytes[..places[0]]).sensors;
     for (event, &end) in script.events.iter().zip(&places[1..]) {
         let after = Listing::of(lister, &bytes[..end]);
-        for (&from, &to) in before.iter().zip(&after.phases) {
-            reached.phase(event.kind, from, to);
+        for (from, to) in before.iter().zip(&after.sensors) {
+            reached.phase(event.kind, from[1], to[1]);
+            if from[1] == 0 && to[1] == 0 {
+                reached.level(event.kind, from[0], to[0]);
+            }
         }
-        before = after.phases;
+        note(&mut readings, event, *after.answers.last().unwrap(), reached);
+        before = after.sensors;
     }
     let part = &bytes[..r.pick(&places)];
     let expected = Listing::of(lister, part);

@@ -1,22 +1,16 @@
-use Rattle.sensor.specs.Single.{judgeOf}
+use Rattle.sensor.proofs.Arms.{judges}
 use borrow.Author.Needs.{needs}
 use Rattle.sensor.proofs.single.Sensor.judge.Statement.{statement}
 use Rattle.sensor.proofs.single.Sensor.judge.Tie as tie
 
-in-thousandths-requires : tie.Need-in-thousandths-requires
-in-thousandths-requires c κs = search needs
+level-given-requires : tie.Need-level-given-requires
+level-given-requires c κs = search needs
 
-in-thousandths-requires-2 : tie.Need-in-thousandths-requires-2
-in-thousandths-requires-2 c κs = search needs
-
-level-after-requires : tie.Need-level-after-requires
-level-after-requires c κs = search needs
+turn-to-requires : tie.Need-turn-to-requires
+turn-to-requires c κs = search needs
 
 returns : tie.Need-returns
-unfolding judgeOf
-returns c = simp (c .level-after .ensures, c .before .in-thousandths2 .ensures, c .before .before .in-thousandths .ensures)
+returns c = search judges
 
 pub judge-spec : {M : Type 1} → statement M
-judge-spec =
-    tie.close
-    (tie.spec in-thousandths-requires in-thousandths-requires-2 level-after-requires returns)
+judge-spec = tie.close (tie.spec level-given-requires turn-to-requires returns)

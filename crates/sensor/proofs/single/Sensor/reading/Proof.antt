@@ -1,4 +1,4 @@
-use Rattle.sensor.proofs.Arms.{in-range, judged}
+use Rattle.sensor.proofs.Arms.{in-range, reads}
 use Rattle.sensor.specs.Single.{readingOf}
 use Rattle.base.proofs.Cases.{cases}
 use borrow.Author.Needs.{needs}
@@ -9,14 +9,14 @@ returns : tie.Need-returns
 unfolding readingOf
 returns c = search cases
 
+keep-requires : tie.Need-keep-requires
+keep-requires c κs = search needs
+
 judge-requires : tie.Need-judge-requires
 judge-requires c κs = search needs
 
-turn-to-requires : tie.Need-turn-to-requires
-turn-to-requires c κs = search needs
-
 returns-2 : tie.Need-returns-2
-returns-2 c = search (in-range, judged)
+returns-2 c = search (in-range, reads)
 
 pub reading-spec : {M : Type 1} → statement M
-reading-spec = tie.close (tie.spec returns judge-requires turn-to-requires returns-2)
+reading-spec = tie.close (tie.spec returns keep-requires judge-requires returns-2)

@@ -1,6 +1,6 @@
 use mathlib.Core.Path.{refl}
 use mathlib.Core.Bool.{false≢true}
-use Rattle.sensor.proofs.Motion.{rests-disabled, rests-settled, level-told, condition-told, timer-told, phase-told}
+use Rattle.sensor.proofs.Motion.{rests-disabled, rests-settled, level-told, condition-told, timer-told, reading-told, blank-told, phase-told}
 use borrow.Author.Needs.{needs}
 use Rattle.sensor.proofs.single.Sensor.rests.Statement.{statement}
 use Rattle.sensor.proofs.single.Sensor.rests.Tie as tie
@@ -12,6 +12,8 @@ rests-spec =
     (λ c. (λ e. absurd (false≢true e), λ h. search (level-told, needs)))
     (λ c. (λ e. absurd (false≢true e), λ h. search (condition-told, needs)))
     (λ c. (λ e. absurd (false≢true e), λ h. search (timer-told, needs)))
+    (λ c. (λ e. absurd (false≢true e), λ h. search (reading-told, needs)))
+    (λ c. (λ e. absurd (false≢true e), λ h. search (blank-told, needs)))
     (λ c. search needs)
     (λ c. search needs)
     (λ c. search needs)
