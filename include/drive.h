@@ -3,7 +3,7 @@
  *
  * They are the exported functions of crates/api, and each is proved to do what its comment says, on every value of its parameters: the
  * definitions are in crates/api/specs/Exports.antt. Build the library with `rt staticlib api`, and link target/staticlib/libapi.a and the C
- * library. "Document 01" is the scope paper.
+ * library. "Document 01" is the scope paper, as the requests that have landed amend it (README.md, 'Requests').
  *
  * What a call asks of its caller: a buffer is a pointer and the number of its elements; no pointer is NULL, also where that number is 0; and
  * no memory that a call writes overlaps other memory that it is given. The functions keep nothing between two calls, and take their memory

@@ -1,3 +1,4 @@
 pub mod Tables
 pub mod Reaching
 pub mod Worked
+pub mod Readings

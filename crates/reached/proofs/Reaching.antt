@@ -17,7 +17,7 @@ use Rattle.base.proofs.Jumps.{ticks-keep}
 use Rattle.sensor.specs.declared.single.Sensor.{Sensor}
 use Rattle.sensor.specs.Single.{freshSensor, powerCycleOf, sensorTick}
 use Rattle.sensor_set.specs.Columns.{sensorAfter}
-use Rattle.sensor_set.proofs.Keeping.{Keeps, keeps-sound, keeps-judged}
+use Rattle.sensor_set.proofs.Keeping.{Keeps, keeps-sound, keeps-up-to-date}
 use Rattle.sensor.proofs.Motion.{fresh-tick, fresh-power-cycle}
 use Rattle.base.specs.Lists.{Bytes}
 use Rattle.token_reader.specs.Read.{mostTokenBytes, TokenOutcome, elements, refusal, readTokens, expressionIn}
@@ -46,10 +46,10 @@ use Rattle.reached.proofs.Tables.{fresh-table, map-table, modify-table,
 
 keeps-fits : Keeps SensorFits
 keeps-fits = record {
-  fresh = record { sound = keeps-sound .fresh; judged = keeps-judged .fresh };
-  event = λ x s h. record { sound = keeps-sound .event x s (h .sound); judged = keeps-judged .event x s (h .judged) };
-  tick = λ s h. record { sound = keeps-sound .tick s (h .sound); judged = keeps-judged .tick s (h .judged) };
-  cycle = λ s h. record { sound = keeps-sound .cycle s (h .sound); judged = keeps-judged .cycle s (h .judged) };
+  fresh = record { sound = keeps-sound .fresh; up-to-date = keeps-up-to-date .fresh };
+  event = λ x s h. record { sound = keeps-sound .event x s (h .sound); up-to-date = keeps-up-to-date .event x s (h .up-to-date) };
+  tick = λ s h. record { sound = keeps-sound .tick s (h .sound); up-to-date = keeps-up-to-date .tick s (h .up-to-date) };
+  cycle = λ s h. record { sound = keeps-sound .cycle s (h .sound); up-to-date = keeps-up-to-date .cycle s (h .up-to-date) };
 }
 
 -- ---- one row

@@ -1,2 +1,3 @@
 pub mod Reached
 pub mod Starred
+pub mod Readings

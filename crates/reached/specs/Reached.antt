@@ -7,7 +7,7 @@ use lib.ListN.{length, getD}
 use Rattle.base.specs.Lists.{Bytes}
 use Rattle.sensor.specs.Single.{freshSensor}
 use Rattle.sensor.specs.declared.single.Sensor.{Sensor}
-use Rattle.sensor.specs.Sound.{Sound, Judged}
+use Rattle.sensor.specs.Sound.{Sound, UpToDate}
 use Rattle.expression.specs.declared.Element.{Element}
 use Rattle.expression.specs.declared.Expression.{Expression}
 use Rattle.expression.specs.Elements.{mostElements, expressionOf, AllFit}
@@ -48,8 +48,9 @@ pub record RowFits (row : Row) : Type 0 where
 pub record SensorFits (s : Sensor) : Type 0 where
   -- a timer, a phase, a level and a condition that agree, and fractions in their range
   pub sound : Sound s
-  -- document 02, #101: "Thresholds act when they are set.": the level is the one that the last reading gives under the thresholds as they are
-  pub judged : Judged s
+  -- document 02, #101: "Thresholds act when they are set.": the level is the one that the last reading gives under the thresholds as they are;
+  -- that reading is in its range, and 0 where there is none
+  pub up-to-date : UpToDate s
 
 -- "a header out of range" is refused
 pub record InRange (capacity bands sensors : ℕ) : Type 0 where

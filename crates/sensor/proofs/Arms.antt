@@ -13,7 +13,7 @@ use Rattle.phases.specs.declared.Cause.{Cause}
 use Rattle.phases.specs.declared.Cause.the-variants.{PowerCycle}
 use Rattle.sensor.specs.declared.single.Sensor.{Sensor}
 use Rattle.phases.specs.Phases.{phaseNumber, moveOf, numberAfter, levelAfter}
-use Rattle.sensor.specs.Single.{withLevel, movedBy, entering, afterCause, turnCause, turnedTo, onOf, offOf, keeping, forgetting, levelOf, judged, readingOf, readingAnswer, powerCycleOf, withTimer}
+use Rattle.sensor.specs.Single.{withLevel, movedBy, entering, afterCause, turnCause, turnedTo, onOf, offOf, keeping, forgetting, levelGiven, judged, readingOf, readingAnswer, powerCycleOf, withTimer}
 use Rattle.sensor.specs.Parts.{quietOf, loweredBy}
 use Rattle.sensor.specs.Level.{greatestReading, levelRule}
 
@@ -53,16 +53,16 @@ beq-true false b e = absurd (false≢true e)
 
 -- the level that the last reading gives
 
-pub given-none : (s : Sensor) → not (s .«has_reading») ≡ true → s .level ≡ levelOf s
-unfolding levelOf
+pub given-none : (s : Sensor) → not (s .«has_reading») ≡ true → s .level ≡ levelGiven s
+unfolding levelGiven
 given-none s e = cond-true (not (s .«has_reading»)) _ _ _ e refl ∙ sym (cond-not (s .«has_reading») _ _)
 
 pub given-last : (s : Sensor) (on off : ℕ) (l : Bool) → not (s .«has_reading») ≡ false → on ≡ onOf s → off ≡ offOf s
-    → l ≡ levelRule on off (s .«last_reading») (s .level) → l ≡ levelOf s
-unfolding levelOf
+    → l ≡ levelRule on off (s .«last_reading») (s .level) → l ≡ levelGiven s
+unfolding levelGiven
 given-last s on off l e a b q = cond-false (not (s .«has_reading»)) _ _ _ e (q ∙ rw (a, b)) ∙ sym (cond-not (s .«has_reading») _ _)
 
-pub judges : (s r : Sensor) (l : Bool) → l ≡ levelOf s → r ≡ turnedTo l s → r ≡ judged s
+pub judges : (s r : Sensor) (l : Bool) → l ≡ levelGiven s → r ≡ turnedTo l s → r ≡ judged s
 unfolding judged
 judges s r l e q = q ∙ ap (λ (x : Bool). turnedTo x s) e
 

@@ -13,7 +13,7 @@ use Rattle.phases.specs.declared.Cause.the-variants.{TimerEnds, Disabled, Power
 use Rattle.phases.specs.Phases.{moveOf, levelAfter}
 use Rattle.sensor.specs.declared.single.Sensor.{Sensor}
 use Rattle.sensor.specs.Level.{greatestReading}
-use Rattle.sensor.specs.Single.{greatestNumber, freshSensor, withLevel, withTimer, timerIn, movedBy, afterCause, withReading, keeping, levelOf, judged, turnCause, turnedTo, readingOf, enableCause, enableOf, disableOf, powerCycleOf, sensorTick}
+use Rattle.sensor.specs.Single.{greatestNumber, freshSensor, withLevel, withTimer, timerIn, movedBy, afterCause, withReading, keeping, levelGiven, judged, turnCause, turnedTo, readingOf, enableCause, enableOf, disableOf, powerCycleOf, sensorTick}
 use Rattle.sensor.specs.Sound.{Timed}
 
 pub fresh-timed : Timed freshSensor
@@ -39,7 +39,7 @@ step-timed c s h = moved-timed (moveOf (s .phase) c) (levelAfter c (s .level)) s
 pub judged-timed : (s : Sensor) → Timed s → Timed (judged s)
 unfolding judged turnedTo
 judged-timed s h =
-    cond-both Timed (Bool·beq (levelOf s) (s .level)) s (afterCause (turnCause (levelOf s) s) s) h (step-timed (turnCause (levelOf s) s) s h)
+    cond-both Timed (Bool·beq (levelGiven s) (s .level)) s (afterCause (turnCause (levelGiven s) s) s) h (step-timed (turnCause (levelGiven s) s) s h)
 
 kept-timed : (has : Bool) (v : ℕ) (s : Sensor) → Timed s → Timed (withReading has v s)
 kept-timed has v s h = record { on = h .on; off = h .off; timer = h .timer }

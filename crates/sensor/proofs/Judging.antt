@@ -7,23 +7,24 @@ use mathlib.Core.Bool.{Bool, true, false, cond, Bool·beq, true≢false}
 use lib.Dec.{eqb, ltb}
 use borrow.Author.Tests.{ltb-false, lt-ltb, le-ltb}
 use Rattle.base.proofs.Cases.{cond-either, cond-true, cond-false}
+use Rattle.phases.specs.declared.Phase.{Phase}
 use Rattle.phases.specs.declared.Phase.the-variants.{SS0, SS2}
 use Rattle.phases.specs.declared.Move.{Move}
 use Rattle.phases.specs.declared.Move.the-variants.{Stays, Enters}
 use Rattle.phases.specs.declared.Cause.{Cause}
-use Rattle.phases.specs.declared.Cause.the-variants.{TimerEnds, EnabledTrueAtOnce, EnabledTrueWaiting, EnabledFalse, Disabled, PowerCycle}
-use Rattle.phases.specs.Phases.{moveOf, levelAfter}
+use Rattle.phases.specs.declared.Cause.the-variants.{TimerEnds, EnabledTrueAtOnce, EnabledTrueWaiting, EnabledFalse, Disabled}
+use Rattle.phases.specs.Phases.{whenDisabled, moveOf, levelAfter}
 use Rattle.sensor.specs.declared.single.Sensor.{Sensor}
 use Rattle.sensor.specs.Level.{greatestReading, levelRule}
-use Rattle.sensor.specs.Single.{freshSensor, withLevel, withTimer, withReading, keeping, onOf, offOf, levelOf, judged, movedBy, afterCause, turnCause, turnedTo, readingOf, enableCause, enableOf, disableOf, powerCycleOf, sensorTick}
-use Rattle.sensor.specs.Sound.{Kept, Judged}
+use Rattle.sensor.specs.Single.{freshSensor, moved, withLevel, withTimer, withReading, keeping, onOf, offOf, levelGiven, judged, movedBy, afterCause, turnCause, turnedTo, readingOf, enableCause, enableOf, disableOf, powerCycleOf, sensorTick}
+use Rattle.sensor.specs.Sound.{Kept, UpToDate}
 use Rattle.sensor.specs.Judging.{LastRead, NoReading, SameReading, Judging}
 use Rattle.sensor.proofs.Levels.{rule-again}
 use Rattle.sensor.proofs.Motion.{same-level, move-level, turn-level, turned-level}
 
-pub fresh-judged : Judged freshSensor
-unfolding freshSensor levelOf
-fresh-judged = record { level = refl; kept = record { range = omega arith; blank = λ e. refl } }
+pub fresh-up-to-date : UpToDate freshSensor
+unfolding freshSensor levelGiven
+fresh-up-to-date = record { level = refl; kept = record { range = omega arith; blank = λ e. refl } }
 
 -- ---- a cause moves the level, the phase, the condition and the timer, and neither a column nor the last reading
 
@@ -31,11 +32,11 @@ fresh-judged = record { level = refl; kept = record { range = omega arith; blank
 abbrev from : Sensor → Bool → Bool
 from s l = cond (s .«has_reading») (levelRule (onOf s) (offOf s) (s .«last_reading») l) l
 
-step-level : (c : Cause) (s : Sensor) → levelOf (afterCause c s) ≡ from s (levelAfter c (s .level))
-unfolding afterCause levelOf
+step-level : (c : Cause) (s : Sensor) → levelGiven (afterCause c s) ≡ from s (levelAfter c (s .level))
+unfolding afterCause levelGiven
 step-level c s = go (moveOf (s .phase) c)
   where
-    go : (m : Move) → levelOf (movedBy m (withLevel (levelAfter c (s .level)) s)) ≡ from s (levelAfter c (s .level))
+    go : (m : Move) → levelGiven (movedBy m (withLevel (levelAfter c (s .level)) s)) ≡ from s (levelAfter c (s .level))
     go Stays = refl
     go (Enters p) = refl
 
@@ -55,60 +56,60 @@ same-kept : (s t : Sensor) → SameReading s t → Kept s → Kept t
 same-kept s t e h = record { range = omega (arith, h .range, e .value); blank = λ n. e .value ∙ h .blank (sym (e .some) ∙ n) }
 
 -- a cause that leaves the level as it was
-step-judged : (c : Cause) (s : Sensor) → levelAfter c (s .level) ≡ s .level → Judged s → Judged (afterCause c s)
-unfolding levelOf
-step-judged c s e h = record {
+step-up-to-date : (c : Cause) (s : Sensor) → levelAfter c (s .level) ≡ s .level → UpToDate s → UpToDate (afterCause c s)
+unfolding levelGiven
+step-up-to-date c s e h = record {
   level = step-level c s ∙ ap (from s) e ∙ h .level ∙ sym (after-level c s ∙ e);
   kept = same-kept s (afterCause c s) (step-reading c s) (h .kept);
 }
 
 -- ---- judging
 
-turned-given : (l : Bool) (s : Sensor) → levelOf (turnedTo l s) ≡ from s l
-unfolding turnedTo levelOf
+turned-given : (l : Bool) (s : Sensor) → levelGiven (turnedTo l s) ≡ from s l
+unfolding turnedTo levelGiven
 turned-given l s = go (Bool·beq l (s .level)) refl
   where
-    go : (b : Bool) → Bool·beq l (s .level) ≡ b → levelOf (cond b s (afterCause (turnCause l s) s)) ≡ from s l
+    go : (b : Bool) → Bool·beq l (s .level) ≡ b → levelGiven (cond b s (afterCause (turnCause l s) s)) ≡ from s l
     go true e = ap (from s) (same-level l (s .level) e)
     go false e = step-level (turnCause l s) s ∙ ap (from s) (turn-level l s)
 
 judged-reading : (s : Sensor) → SameReading s (judged s)
 unfolding judged turnedTo
 judged-reading s =
-    cond-either (SameReading s) (Bool·beq (levelOf s) (s .level)) s (afterCause (turnCause (levelOf s) s) s) (λ e. record { some = refl; value = refl })
-    (λ e. step-reading (turnCause (levelOf s) s) s)
+    cond-either (SameReading s) (Bool·beq (levelGiven s) (s .level)) s (afterCause (turnCause (levelGiven s) s) s) (λ e. record { some = refl; value = refl })
+    (λ e. step-reading (turnCause (levelGiven s) s) s)
 
 -- to judge a last reading once more changes nothing
 given-again : (has : Bool) (on off v : ℕ) (l : Bool) → let m = cond has (levelRule on off v l) l in cond has (levelRule on off v m) m ≡ m
 given-again true on off v l = rule-again on off v l
 given-again false on off v l = refl
 
-judged-level : (s : Sensor) → levelOf (judged s) ≡ judged s .level
-unfolding judged levelOf
+judged-level : (s : Sensor) → levelGiven (judged s) ≡ judged s .level
+unfolding judged levelGiven
 judged-level s =
-    turned-given (levelOf s) s ∙ given-again (s .«has_reading») (onOf s) (offOf s) (s .«last_reading») (s .level) ∙ sym (turned-level (levelOf s) s)
+    turned-given (levelGiven s) s ∙ given-again (s .«has_reading») (onOf s) (offOf s) (s .«last_reading») (s .level) ∙ sym (turned-level (levelGiven s) s)
 
-pub judged-judged : (s : Sensor) → Kept s → Judged (judged s)
-judged-judged s h = record { level = judged-level s; kept = same-kept s (judged s) (judged-reading s) h }
+pub judged-up-to-date : (s : Sensor) → Kept s → UpToDate (judged s)
+judged-up-to-date s h = record { level = judged-level s; kept = same-kept s (judged s) (judged-reading s) h }
 
-pub reading-judged : (v : ℕ) (s : Sensor) → Judged s → Judged (readingOf v s)
+pub reading-up-to-date : (v : ℕ) (s : Sensor) → UpToDate s → UpToDate (readingOf v s)
 unfolding readingOf
-reading-judged v s h =
-    cond-either Judged (ltb greatestReading v) s (judged (keeping v s)) (λ e. h)
-    (λ e. judged-judged (keeping v s) (record { range = ltb-false greatestReading v e; blank = λ n. absurd (true≢false n) }))
+reading-up-to-date v s h =
+    cond-either UpToDate (ltb greatestReading v) s (judged (keeping v s)) (λ e. h)
+    (λ e. judged-up-to-date (keeping v s) (record { range = ltb-false greatestReading v e; blank = λ n. absurd (true≢false n) }))
 
 -- ---- ticks, enabling, disabling, power cycle
 
-lowered-judged : (t : ℕ) (s : Sensor) → Judged s → Judged (withTimer t s)
-unfolding levelOf
-lowered-judged t s h = record { level = h .level; kept = record { range = h .kept .range; blank = h .kept .blank } }
+lowered-up-to-date : (t : ℕ) (s : Sensor) → UpToDate s → UpToDate (withTimer t s)
+unfolding levelGiven
+lowered-up-to-date t s h = record { level = h .level; kept = record { range = h .kept .range; blank = h .kept .blank } }
 
-pub tick-judged : (s : Sensor) → Judged s → Judged (sensorTick s)
+pub tick-up-to-date : (s : Sensor) → UpToDate s → UpToDate (sensorTick s)
 unfolding sensorTick
-tick-judged s h =
-    cond-either Judged (eqb (s .timer) 0) s _ (λ e. h)
-    (λ e. cond-either Judged (eqb (s .timer) 1) (afterCause TimerEnds s) (withTimer (s .timer - 1) s) (λ f. step-judged TimerEnds s refl h)
-    (λ f. lowered-judged (s .timer - 1) s h))
+tick-up-to-date s h =
+    cond-either UpToDate (eqb (s .timer) 0) s _ (λ e. h)
+    (λ e. cond-either UpToDate (eqb (s .timer) 1) (afterCause TimerEnds s) (withTimer (s .timer - 1) s) (λ f. step-up-to-date TimerEnds s refl h)
+    (λ f. lowered-up-to-date (s .timer - 1) s h))
 
 tick-reading : (s : Sensor) → SameReading s (sensorTick s)
 unfolding sensorTick
@@ -125,13 +126,13 @@ enable-keeps s = go (s .level) (eqb (s .«on_timeout») 0)
     go true false = refl
     go false b = refl
 
-pub enable-judged : (s : Sensor) → Judged s → Judged (enableOf s)
+pub enable-up-to-date : (s : Sensor) → UpToDate s → UpToDate (enableOf s)
 unfolding enableOf
-enable-judged s h = step-judged (enableCause s) s (enable-keeps s) h
+enable-up-to-date s h = step-up-to-date (enableCause s) s (enable-keeps s) h
 
-pub disable-judged : (s : Sensor) → Judged s → Judged (disableOf s)
+pub disable-up-to-date : (s : Sensor) → UpToDate s → UpToDate (disableOf s)
 unfolding disableOf
-disable-judged s h = step-judged Disabled s refl h
+disable-up-to-date s h = step-up-to-date Disabled s refl h
 
 enable-reading : (s : Sensor) → SameReading s (enableOf s)
 unfolding enableOf
@@ -141,18 +142,16 @@ disable-reading : (s : Sensor) → SameReading s (disableOf s)
 unfolding disableOf
 disable-reading s = step-reading Disabled s
 
-pub enable-level : (s : Sensor) → enableOf s .level ≡ s .level
-unfolding enableOf
-enable-level s = after-level (enableCause s) s ∙ enable-keeps s
-
 -- "with level FALSE it gives SS2"
-pub enable-false : (s : Sensor) → s .phase ≡ SS0 → s .level ≡ false → enableOf s .phase ≡ SS2
+pub enable-false : (s : Sensor) → s .phase ≡ SS0 → s .level ≡ false → enableOf s ≡ moved false SS2 false 0 s
 unfolding enableOf afterCause moveOf
-enable-false s p l = rw (l, p)
+enable-false s p l =
+    ap (λ (b : Bool). afterCause (cond b (cond (eqb (s .«on_timeout») 0) EnabledTrueAtOnce EnabledTrueWaiting) EnabledFalse) s) l
+    ∙ ap (λ (q : Phase). movedBy (whenDisabled q SS2) s) p ∙ ap (λ (b : Bool). moved b SS2 false 0 s) l
 
-pub power-cycle-judged : (s : Sensor) → Judged s → Judged (powerCycleOf s)
-unfolding powerCycleOf levelOf
-power-cycle-judged s h = record { level = refl; kept = record { range = omega arith; blank = λ e. refl } }
+pub power-cycle-up-to-date : (s : Sensor) → UpToDate s → UpToDate (powerCycleOf s)
+unfolding powerCycleOf levelGiven
+power-cycle-up-to-date s h = record { level = refl; kept = record { range = omega arith; blank = λ e. refl } }
 
 -- ---- document 02, #101, in its own words
 
@@ -182,7 +181,7 @@ again : (v : ℕ) (s : Sensor) → LastRead v s → v ≤ greatestReading → ju
 again v s e h = (λ i. judged (withReading (e .some i) (e .value i) s)) ∙ sym (granted v s h)
 
 -- a level that is the given one stays, and all else with it
-judged-same : (s : Sensor) → levelOf s ≡ s .level → judged s ≡ s
+judged-same : (s : Sensor) → levelGiven s ≡ s .level → judged s ≡ s
 unfolding judged turnedTo
 judged-same s e = ap (λ (l : Bool). turnedTo l s) e ∙ go (s .level)
   where
@@ -191,7 +190,7 @@ judged-same s e = ap (λ (l : Bool). turnedTo l s) e ∙ go (s .level)
     go false = refl
 
 no-reading : (s : Sensor) → NoReading s → judged s ≡ s
-unfolding levelOf
+unfolding levelGiven
 no-reading s e = judged-same s (sym (cond-false (s .«has_reading») _ (s .level) _ e refl))
 
 pub judging : Judging

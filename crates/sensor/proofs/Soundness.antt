@@ -26,7 +26,7 @@ use Rattle.phases.specs.declared.Cause.the-variants.{
 use Rattle.sensor.specs.declared.single.Sensor.{Sensor}
 use Rattle.phases.specs.Phases.{conditionIn, whenEnabled, whenDisabled, settled, powerCycled, moveOf}
 use Rattle.sensor.specs.Level.{greatestReading}
-use Rattle.sensor.specs.Single.{freshSensor, moved, withLevel, withTimer, timerIn, entering, movedBy, afterCause, withReading, keeping, levelOf, judged, turnCause, turnedTo, readingOf, enableCause, enableOf, disableOf, powerCycleOf, sensorTick}
+use Rattle.sensor.specs.Single.{freshSensor, moved, withLevel, withTimer, timerIn, entering, movedBy, afterCause, withReading, keeping, levelGiven, judged, turnCause, turnedTo, readingOf, enableCause, enableOf, disableOf, powerCycleOf, sensorTick}
 use Rattle.sensor.specs.Parts.{loweredBy}
 use Rattle.sensor.specs.Sound.{TimerAgrees, LevelAgrees, ConditionAgrees, Sound}
 use Rattle.sensor.proofs.Ticks.{QuietFor}
@@ -160,7 +160,7 @@ turn-sound l s h =
 
 pub judged-sound : (s : Sensor) → Sound s → Sound (judged s)
 unfolding judged
-judged-sound s h = turn-sound (levelOf s) s h
+judged-sound s h = turn-sound (levelGiven s) s h
 
 -- a last reading says nothing of the phases
 kept-sound : (has : Bool) (v : ℕ) (s : Sensor) → Sound s → Sound (withReading has v s)

@@ -1,5 +1,5 @@
 -- Document 01's starred cases of one sensor: the level after a reading at the limits, and a timeout of three ticks.
-use mathlib.Core.Path.{_≡_, refl, sym, ap, _∙_}
+use mathlib.Core.Path.{_≡_, refl, ap, _∙_}
 use Prim.Native.Nat.{ℕ, _≤_}
 use native.Mathlib.Omega.{arith}
 use mathlib.Core.Bool.{Bool, true, false, cond, Bool·beq}
@@ -8,7 +8,7 @@ use Rattle.base.specs.Ticks.{ticks}
 use Rattle.phases.specs.Phases.{isEnabled, moveOf}
 use Rattle.sensor.specs.declared.single.Sensor.{Sensor}
 use Rattle.sensor.specs.Level.{greatestReading, levelRule}
-use Rattle.sensor.specs.Single.{onOf, offOf, moved, keeping, levelOf, judged, turnedTo, readingOf, afterCause, sensorTick}
+use Rattle.sensor.specs.Single.{onOf, offOf, moved, keeping, levelGiven, judged, turnedTo, readingOf, afterCause, sensorTick}
 use Rattle.sensor.proofs.Levels.{high-true, low-false, inside-keeps, high-false}
 use Rattle.sensor.specs.Turning.{waitingAt}
 use Rattle.sensor.proofs.Motion.{turned-level, turn-waits}
@@ -17,8 +17,8 @@ use Rattle.sensor.proofs.Motion.{turned-level, turn-waits}
 
 -- the level after a reading is the one that the rule gives
 pub reading-level : (v : ℕ) (s : Sensor) → v ≤ greatestReading → readingOf v s .level ≡ levelRule (onOf s) (offOf s) v (s .level)
-unfolding readingOf judged levelOf
-reading-level v s h = rw (le-ltb greatestReading v h) (turned-level (levelOf (keeping v s)) (keeping v s))
+unfolding readingOf judged levelGiven
+reading-level v s h = rw (le-ltb greatestReading v h) (turned-level (levelGiven (keeping v s)) (keeping v s))
 
 module _ (s : Sensor) where
   module _ (p : onOf s ≡ 5000) (q : offOf s ≡ 5000) where

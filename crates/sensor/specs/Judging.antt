@@ -6,7 +6,7 @@ use mathlib.Core.Bool.{true, false}
 use Rattle.sensor.specs.declared.single.Sensor.{Sensor}
 use Rattle.sensor.specs.Level.{greatestReading}
 use Rattle.sensor.specs.Single.{freshSensor, judged, readingOf, enableOf, disableOf, powerCycleOf, sensorTick}
-use Rattle.sensor.specs.Sound.{Judged}
+use Rattle.sensor.specs.Sound.{UpToDate}
 
 -- v is the last reading of a sensor
 pub record LastRead (v : ℕ) (s : Sensor) : Type 0 where
@@ -17,7 +17,7 @@ pub record LastRead (v : ℕ) (s : Sensor) : Type 0 where
 abbrev pub NoReading : Sensor → Type 0
 NoReading s = s .«has_reading» ≡ false
 
--- two sensors have the same last reading, or none
+-- the second sensor has the last reading of the first, or none as the first has none
 pub record SameReading (s t : Sensor) : Type 0 where
   pub some : t .«has_reading» ≡ s .«has_reading»
   pub value : t .«last_reading» ≡ s .«last_reading»
@@ -39,5 +39,5 @@ pub record Judging : Type 0 where
   pub again : (v : ℕ) (s : Sensor) → LastRead v s → v ≤ greatestReading → judged s ≡ readingOf v s
   -- "With no reading the level stays.", and all else with it
   pub no-reading : (s : Sensor) → NoReading s → judged s ≡ s
-  -- "01's "from the next reading" is dropped.": of a sensor that events reach, to judge the last reading once more changes nothing
-  pub nothing-waits : (s : Sensor) → Judged s → judged s ≡ s
+  -- and where the level is the one that the last reading gives, judging changes nothing, as it must where every sensor is so (`UpToDate`)
+  pub nothing-waits : (s : Sensor) → UpToDate s → judged s ≡ s

@@ -1,5 +1,6 @@
--- Document 01, 'Sensors', and document 02, #101: one sensor, what each event and each tick makes of it. A sensor's phase says whether it is enabled, and its
--- timer runs where it is not 0; so every value of the type has a meaning, also one that no event reaches.
+-- Document 01, 'Sensors', and document 02, #101: one sensor, what each event and each tick makes of it. A sensor's phase says whether it is
+-- enabled, its timer runs where it is not 0, and its last reading counts where it has one; so every value of the type has a meaning, also one
+-- that no event reaches.
 use Prim.Native.Nat.{ℕ, _-_}
 use mathlib.Core.Path.{_≡_}
 use mathlib.Core.Bool.{Bool, true, false, cond, Bool·beq}
@@ -42,7 +43,7 @@ freshSensor = record {
   «last_reading» = 0;
 }
 
--- the same columns, with another level, phase, condition, timer and last reading
+-- the same columns, with another level, phase, condition and timer, and another last reading: whether there is one, and its value
 abbrev pub standing : Bool → Phase → Bool → ℕ → Bool → ℕ → Sensor → Sensor
 standing l p c t has last s = record {
   «on_threshold» = s .«on_threshold»;
@@ -107,9 +108,10 @@ onOf s = thousandths (s .«on_threshold») (s .«on_fraction»)
 abbrev pub offOf : Sensor → ℕ
 offOf s = thousandths (s .«off_threshold») (s .«off_fraction»)
 
--- the level that the last reading gives by the level rule. #101: "With no reading the level stays."
-unfoldable pub levelOf : Sensor → Bool
-levelOf s = cond (s .«has_reading») (levelRule (onOf s) (offOf s) (s .«last_reading») (s .level)) (s .level)
+-- the level that the last reading gives by the level rule, which is not always the level that the sensor has. #101: "With no reading the
+-- level stays."
+unfoldable pub levelGiven : Sensor → Bool
+levelGiven s = cond (s .«has_reading») (levelRule (onOf s) (offOf s) (s .«last_reading») (s .level)) (s .level)
 
 -- "When an enabled sensor's level turns TRUE: on-timeout 0 ..", "Turning FALSE: off-timeout 0 ..": which cause a turn is
 abbrev pub turnCause : Bool → Sensor → Cause
@@ -122,7 +124,7 @@ turnedTo l s = cond (Bool·beq l (s .level)) s (afterCause (turnCause l s) s)
 
 -- #101: "judges that reading again by the level rule": the one judging, of a reading and of a Set
 unfoldable pub judged : Sensor → Sensor
-judged s = turnedTo (levelOf s) s
+judged s = turnedTo (levelGiven s) s
 
 -- 2 "out of range: a field exceeds its range": the refusals of a reading of a sensor that is there
 abbrev pub readingRefusals : ℕ → List Refusal

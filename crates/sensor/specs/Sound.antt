@@ -1,4 +1,5 @@
--- What holds of every sensor that events reach: its timer, phase, level and condition agree, and its fractions are in their range.
+-- What holds of every sensor that events reach: its timer, phase, level and condition agree, its fractions and its last reading are in their
+-- ranges, and its level is the one that its last reading gives.
 use Prim.Native.Nat.{ℕ, _≤_}
 use mathlib.Core.Path.{_≡_}
 use mathlib.Core.Bool.{Bool, true, false}
@@ -6,7 +7,7 @@ use Rattle.phases.specs.declared.Phase.{Phase}
 use Rattle.phases.specs.declared.Phase.the-variants.{SS0, ST0, SS1, ST1, SS2}
 use Rattle.sensor.specs.declared.single.Sensor.{Sensor}
 use Rattle.sensor.specs.Level.{greatestReading}
-use Rattle.sensor.specs.Single.{greatestNumber, greatestFraction, levelOf}
+use Rattle.sensor.specs.Single.{greatestNumber, greatestFraction, levelGiven}
 
 -- a timer runs exactly while the sensor waits
 abbrev pub TimerAgrees : Phase → ℕ → Type 0
@@ -47,8 +48,8 @@ pub record Kept (s : Sensor) : Type 0 where
 
 -- Document 02, #101: "Thresholds act when they are set." The level is the one that the last reading gives under the thresholds as they now
 -- are: no threshold waits for the next reading.
-pub record Judged (s : Sensor) : Type 0 where
-  pub level : levelOf s ≡ s .level
+pub record UpToDate (s : Sensor) : Type 0 where
+  pub level : levelGiven s ≡ s .level
   pub kept : Kept s
 
 -- "Thresholds and timeouts are 0 to 4,294,967,295": so no timer exceeds that either

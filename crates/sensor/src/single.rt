@@ -3,7 +3,7 @@ ghost use mathlib.Core.Path.{_≡_};
 ghost use mathlib.Core.Bool.{true, Bool·beq};
 ghost use Rattle.phases.specs.Phases.{phaseNumber, moveOf, numberAfter};
 ghost use Rattle.sensor.specs.Level.{thousandths, levelRule};
-ghost use Rattle.sensor.specs.Single.{freshSensor, withLevel, withTimer, keeping, forgetting, levelOf, judged, timerIn, entering, afterCause, turnCause, turnedTo, readingAnswer, readingOf, enableCause, enableOf, disableOf, powerCycleOf, sensorTick, runs, endsNext, Answers};
+ghost use Rattle.sensor.specs.Single.{freshSensor, withLevel, withTimer, keeping, forgetting, levelGiven, judged, timerIn, entering, afterCause, turnCause, turnedTo, readingAnswer, readingOf, enableCause, enableOf, disableOf, powerCycleOf, sensorTick, runs, endsNext, Answers};
 ghost use Rattle.sensor.specs.Parts.{loweredBy, quietOf};
 use answer::Answer;
 use phases::Cause;
@@ -165,7 +165,7 @@ impl Sensor {
 
     // The level that the last reading gives; with none the level stays.
     fn level_given(self) -> bool
-        ensures { λ r. ⌜ r ≡ levelOf self ⌝ }
+        ensures { λ r. ⌜ r ≡ levelGiven self ⌝ }
     {
         if !self.has_reading {
             return self.level;

@@ -4,11 +4,11 @@ use Rattle.sensor.specs.Single.{freshSensor, powerCycleOf, sensorTick}
 use Rattle.sensor_set.specs.declared.SensorEvent.{SensorEvent}
 use Rattle.sensor_set.specs.declared.SensorEvent.the-variants as E
 use Rattle.sensor_set.specs.Columns.{sensorAfter}
-use Rattle.sensor.specs.Sound.{Sound, Timed, Judged}
+use Rattle.sensor.specs.Sound.{Sound, Timed, UpToDate}
 use Rattle.sensor.proofs.Soundness.{fresh-sound, tick-sound, reading-sound, power-cycle-sound}
 use Rattle.sensor.proofs.Bounds.{fresh-timed, tick-timed, reading-timed, cycle-timed}
-use Rattle.sensor.proofs.Judging.{fresh-judged, tick-judged, reading-judged, power-cycle-judged}
-use Rattle.sensor_set.proofs.Sets.{set-sound, set-timed, set-judged}
+use Rattle.sensor.proofs.Judging.{fresh-up-to-date, tick-up-to-date, reading-up-to-date, power-cycle-up-to-date}
+use Rattle.sensor_set.proofs.Sets.{set-sound, set-timed, set-up-to-date}
 
 -- it holds of the fresh sensor, and whatever happens to a sensor leaves it so
 pub record Keeps (P : Sensor → Type 0) : Type 0 where
@@ -31,9 +31,9 @@ event-timed (E.Set c) = set-timed c
 pub keeps-timed : Keeps Timed
 keeps-timed = record { fresh = fresh-timed; event = event-timed; tick = tick-timed; cycle = cycle-timed }
 
-event-judged : (x : SensorEvent) (s : Sensor) → Judged s → Judged (sensorAfter x s)
-event-judged (E.Reading v) = reading-judged v
-event-judged (E.Set c) = set-judged c
+event-up-to-date : (x : SensorEvent) (s : Sensor) → UpToDate s → UpToDate (sensorAfter x s)
+event-up-to-date (E.Reading v) = reading-up-to-date v
+event-up-to-date (E.Set c) = set-up-to-date c
 
-pub keeps-judged : Keeps Judged
-keeps-judged = record { fresh = fresh-judged; event = event-judged; tick = tick-judged; cycle = power-cycle-judged }
+pub keeps-up-to-date : Keeps UpToDate
+keeps-up-to-date = record { fresh = fresh-up-to-date; event = event-up-to-date; tick = tick-up-to-date; cycle = power-cycle-up-to-date }

@@ -9,11 +9,11 @@ use Rattle.base.proofs.Cases.{cond-either, neither}
 use Rattle.base.proofs.Columns.{stored-within}
 use Rattle.sensor.specs.declared.single.Sensor.{Sensor}
 use Rattle.sensor.specs.Level.{levelRule}
-use Rattle.sensor.specs.Single.{greatestNumber, greatestFraction, judged, onOf, offOf, levelOf, enableOf, disableOf}
-use Rattle.sensor.specs.Sound.{Sound, Timed, Kept, Judged}
+use Rattle.sensor.specs.Single.{greatestNumber, greatestFraction, judged, onOf, offOf, levelGiven, enableOf, disableOf}
+use Rattle.sensor.specs.Sound.{Sound, Timed, Kept, UpToDate}
 use Rattle.sensor.proofs.Soundness.{judged-sound, enable-sound, disable-sound}
 use Rattle.sensor.proofs.Bounds.{judged-timed, enable-timed, disable-timed}
-use Rattle.sensor.proofs.Judging.{judged-judged, enable-judged, disable-judged}
+use Rattle.sensor.proofs.Judging.{judged-up-to-date, enable-up-to-date, disable-up-to-date}
 use Rattle.sensor_set.specs.declared.SensorColumns.{SensorColumns}
 use Rattle.sensor_set.specs.Columns.{columnsFit, storedOf, namesThreshold, rejudgedOf, switchedOf, setOf}
 use Rattle.sensor_set.proofs.Fits.{fitting}
@@ -35,7 +35,7 @@ module _ (P : Sensor → Type 0) (enabled : (s : Sensor) → P s → P (enableOf
       (λ e. switched c (rejudgedOf c (storedOf c s)) (stored c s e h))
       (λ e. h)
 
--- what storing and judging keep
+-- what judging keeps
 pub rejudged : (P : Sensor → Type 0) → ((s : Sensor) → P s → P (judged s)) → (c : SensorColumns) (s : Sensor) → P s → P (rejudgedOf c s)
 unfolding rejudgedOf
 rejudged P judges c s h = cond-either P (namesThreshold (c .mask)) (judged s) s (λ e. judges s h) (λ e. h)
@@ -85,8 +85,8 @@ module _ (c : SensorColumns) (s : Sensor) (e : namesThreshold (c .mask) ≡ fals
   unfolding storedOf
   same-off = rw (unnamed .1 .0, unnamed .1 .1)
 
-  stored-level : levelOf (storedOf c s) ≡ levelOf s
-  unfolding storedOf levelOf
+  stored-level : levelGiven (storedOf c s) ≡ levelGiven s
+  unfolding storedOf levelGiven
   stored-level =
       ap₂ (λ (on off : ℕ). cond (s .«has_reading») (levelRule on off (s .«last_reading») (s .level)) (s .level)) same-on same-off
 
@@ -94,12 +94,12 @@ stored-kept : (c : SensorColumns) (s : Sensor) → Kept s → Kept (storedOf c s
 unfolding storedOf
 stored-kept c s h = record { range = h .range; blank = h .blank }
 
-rejudged-judged : (c : SensorColumns) (s : Sensor) → columnsFit c ≡ true → Judged s → Judged (rejudgedOf c (storedOf c s))
+rejudged-up-to-date : (c : SensorColumns) (s : Sensor) → columnsFit c ≡ true → UpToDate s → UpToDate (rejudgedOf c (storedOf c s))
 unfolding rejudgedOf storedOf
-rejudged-judged c s e h =
-    cond-either Judged (namesThreshold (c .mask)) (judged (storedOf c s)) (storedOf c s)
-    (λ n. judged-judged (storedOf c s) (stored-kept c s (h .kept)))
+rejudged-up-to-date c s e h =
+    cond-either UpToDate (namesThreshold (c .mask)) (judged (storedOf c s)) (storedOf c s)
+    (λ n. judged-up-to-date (storedOf c s) (stored-kept c s (h .kept)))
     (λ n. record { level = stored-level c s n ∙ h .level; kept = stored-kept c s (h .kept) })
 
-pub set-judged : (c : SensorColumns) (s : Sensor) → Judged s → Judged (setOf c s)
-set-judged = set-keeps Judged enable-judged disable-judged rejudged-judged
+pub set-up-to-date : (c : SensorColumns) (s : Sensor) → UpToDate s → UpToDate (setOf c s)
+set-up-to-date = set-keeps UpToDate enable-up-to-date disable-up-to-date rejudged-up-to-date

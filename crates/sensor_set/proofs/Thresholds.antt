@@ -1,21 +1,21 @@
 -- Document 02, #101, over the rules of a Set: the record `ThresholdsAct`.
 use mathlib.Core.Path.{_≡_, refl, sym, ap, _∙_}
 use Prim.Native.Nat.{ℕ, _≤_}
-use mathlib.Core.Bool.{true, false, cond}
+use mathlib.Core.Bool.{true, false, cond, _||_}
 use lib.Dec.{eqb}
 use borrow.Author.Tests.{eq-eqb}
 use Rattle.base.specs.Columns.{named}
-use Rattle.base.proofs.Cases.{cond-true, cond-false}
+use Rattle.base.proofs.Cases.{cond-true, cond-false, or-yes, or-second}
 use Rattle.phases.specs.declared.Phase.the-variants.{SS0, SS2}
 use Rattle.sensor.specs.declared.single.Sensor.{Sensor}
 use Rattle.sensor.specs.Level.{greatestReading}
-use Rattle.sensor.specs.Single.{levelOf, judged, readingOf, enableOf, disableOf}
+use Rattle.sensor.specs.Single.{moved, withLevel, levelGiven, judged, readingOf, enableOf, disableOf}
 use Rattle.sensor.specs.Judging.{LastRead, NoReading, SameReading}
-use Rattle.sensor.proofs.Judging.{judging, enable-level, enable-false}
+use Rattle.sensor.proofs.Judging.{judging, enable-false}
 use Rattle.sensor.proofs.Motion.{turning}
 use Rattle.sensor_set.specs.declared.SensorColumns.{SensorColumns}
 use Rattle.sensor_set.specs.Columns.{columnsFit, storedOf, namesThreshold, rejudgedOf, switchedOf, setOf}
-use Rattle.sensor_set.specs.Thresholds.{unjudged, Enables, NoThreshold, ThresholdsAct}
+use Rattle.sensor_set.specs.Thresholds.{unjudged, SomeThreshold, on-threshold, on-fraction, off-threshold, off-fraction, NoThreshold, Judges, Enables, ThresholdsAct}
 use Rattle.sensor_set.proofs.Sets.{rejudged, set-keeps}
 
 -- ---- the last reading
@@ -40,18 +40,27 @@ done : (c : SensorColumns) (s t : Sensor) → columnsFit c ≡ true → rejudged
 unfolding setOf
 done c s t e q = sym (cond-true (columnsFit c) _ s _ e (ap (switchedOf c) (sym q)))
 
-named-judges : (c : SensorColumns) (t : Sensor) → namesThreshold (c .mask) ≡ true → rejudgedOf c t ≡ judged t
+-- a bit of the four is what the mask is asked for
+some-named : (m : ℕ) → SomeThreshold m → namesThreshold m ≡ true
+some-named m (on-threshold e) = sym (or-yes (named 2 m || named 4 m) _ (sym (or-yes (named 2 m) (named 4 m) e)))
+some-named m (on-fraction e) = sym (or-yes (named 2 m || named 4 m) _ (or-second (named 2 m) (named 4 m) e))
+some-named m (off-threshold e) =
+    or-second (named 2 m || named 4 m) (named 16 m || named 32 m) (sym (or-yes (named 16 m) (named 32 m) e))
+some-named m (off-fraction e) =
+    or-second (named 2 m || named 4 m) (named 16 m || named 32 m) (or-second (named 16 m) (named 32 m) e)
+
+rejudges : (c : SensorColumns) (t : Sensor) → Judges c → rejudgedOf c t ≡ judged t
 unfolding rejudgedOf
-named-judges c t n = sym (cond-true (namesThreshold (c .mask)) (judged t) t _ n refl)
+rejudges c t h = sym (cond-true (namesThreshold (c .mask)) (judged t) t _ (some-named (c .mask) (h .bit)) refl)
 
 stored-read : (c : SensorColumns) (s : Sensor) (v : ℕ) → LastRead v s → LastRead v (storedOf c s)
 stored-read c s v l = record { some = stored-reading c s .some ∙ l .some; value = stored-reading c s .value ∙ l .value }
 
-judges : (c : SensorColumns) (s : Sensor) (v : ℕ) → columnsFit c ≡ true → namesThreshold (c .mask) ≡ true → LastRead v s
-    → v ≤ greatestReading → setOf c s ≡ switchedOf c (readingOf v (storedOf c s))
-judges c s v e n l h =
+judges : (c : SensorColumns) (s : Sensor) (v : ℕ) → Judges c → LastRead v s → v ≤ greatestReading
+    → setOf c s ≡ switchedOf c (readingOf v (storedOf c s))
+judges c s v k l h =
     let t = storedOf c s in
-    done c s (readingOf v t) e (named-judges c t n ∙ judging .again v t (stored-read c s v l) h)
+    done c s (readingOf v t) (k .fits) (rejudges c t k ∙ judging .again v t (stored-read c s v l) h)
 
 -- a Set whose judging leaves the sensor as it is
 idle : (c : SensorColumns) (s : Sensor) → rejudgedOf c (storedOf c s) ≡ storedOf c s → setOf c s ≡ unjudged c s
@@ -75,27 +84,25 @@ stored-off : (c : SensorColumns) (s : Sensor) → s .phase ≡ SS0 → storedOf 
 unfolding storedOf
 stored-off c s p = p
 
-judged-off : (t : Sensor) → t .phase ≡ SS0 → judged t .phase ≡ SS0
+judged-alone : (t : Sensor) → t .phase ≡ SS0 → judged t ≡ withLevel (levelGiven t) t
 unfolding judged
-judged-off t p = ap (λ (x : Sensor). x .phase) (turning .disabled (levelOf t) t p) ∙ p
+judged-alone t p = turning .disabled (levelGiven t) t p
+
+disabled : (c : SensorColumns) (s : Sensor) → Judges c → s .phase ≡ SS0
+    → setOf c s ≡ switchedOf c (withLevel (levelGiven (storedOf c s)) (storedOf c s))
+disabled c s k p = done c s _ (k .fits) (rejudges c (storedOf c s) k ∙ judged-alone (storedOf c s) (stored-off c s p))
 
 enables : (c : SensorColumns) (t : Sensor) → Enables c → switchedOf c t ≡ enableOf t
 unfolding switchedOf
 enables c t h =
-    sym (cond-true (named 1 (c .mask)) _ t _ (h .named)
+    sym (cond-true (named 1 (c .mask)) _ t _ (h .bit)
     (cond-true (eqb (c .enabled) 1) (enableOf t) (disableOf t) _ (eq-eqb (c .enabled) 1 (h .value)) refl))
 
-judged-first : (c : SensorColumns) (s : Sensor) → Enables c → s .phase ≡ SS0 → setOf c s .level ≡ false → setOf c s .phase ≡ SS2
-judged-first c s h p l = ap (λ (x : Sensor). x .phase) same ∙ enable-false t off (sym (enable-level t) ∙ sym (ap (λ (x : Sensor). x .level) same) ∙ l)
-  where
-    t : Sensor
-    t = rejudgedOf c (storedOf c s)
-
-    same : setOf c s ≡ enableOf t
-    same = done c s t (h .fits) refl ∙ enables c t h
-
-    off : t .phase ≡ SS0
-    off = rejudged (λ x. x .phase ≡ SS0) judged-off c (storedOf c s) (stored-off c s p)
+judged-first : (c : SensorColumns) (s : Sensor) → Judges c → Enables c → s .phase ≡ SS0 → levelGiven (storedOf c s) ≡ false
+    → setOf c s ≡ moved false SS2 false 0 (storedOf c s)
+judged-first c s k h p l =
+    let t = withLevel (levelGiven (storedOf c s)) (storedOf c s) in
+    disabled c s k p ∙ enables c t h ∙ enable-false t (stored-off c s p) l
 
 pub thresholds-act : ThresholdsAct
 thresholds-act = record {
@@ -103,5 +110,6 @@ thresholds-act = record {
   judges = judges;
   no-reading = no-reading;
   no-threshold = no-threshold;
+  disabled = disabled;
   judged-first = judged-first;
 }

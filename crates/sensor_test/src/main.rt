@@ -171,8 +171,8 @@ fn disabled() {
     set(s, 1, 1);
 }
 
-// Sets that judge the last reading, 4,000: of thresholds and fractions, with the timeouts of the same Set, and with a value that was there.
-// Timeouts alone judge nothing, a refused reading is not kept, and a power cycle forgets.
+// Sets that judge the last reading, 4,000: of thresholds and of fractions, and with the timeouts of the same Set. Sets of timeouts alone and of a
+// value that was there leave the sensor as it is, a refused reading is not kept, and a power cycle forgets.
 fn thresholds() {
     io::write_all(1, b"thresholds\n");
     let s = set_all(Sensor::fresh(), 5, 0, 3, 5, 0, 2);

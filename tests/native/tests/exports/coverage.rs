@@ -49,6 +49,8 @@ pub enum Found {
     Reading,
     /// The reading before a power cycle is forgotten.
     PowerCycle,
+    /// The reading before another reset is kept.
+    OtherReset,
 }
 
 #[derive(Default)]
@@ -155,7 +157,7 @@ impl Coverage {
         assert!(self.calls[0] > 0 && self.calls[10] > 0 && self.calls[11] > 0, "an answer of a run was not reached");
         assert!(MOVES.iter().all(|m| self.moves.contains_key(m)), "a move was not reached");
         assert!(TURNS.iter().all(|t| self.turns.contains_key(t)), "a turn of a disabled sensor was not reached");
-        assert_eq!(self.thresholds.len(), 6, "a Set of a threshold was not reached");
+        assert_eq!(self.thresholds.len(), 8, "a Set of a threshold was not reached");
         assert!(self.stays.iter().all(|&n| n > 0), "a phase was not reached");
         assert!(
             DAMAGES.iter().all(|d| self.damages.get(d).is_some_and(|n| n[1] > 0)),

@@ -132,6 +132,11 @@ fn note(readings: &mut Readings, event: &Event, answer: u8, reached: &mut Covera
                 *one = (found, false);
             }
         }
+        (3, 0) => {
+            for one in readings.iter_mut().filter(|one| one.0 == Found::Reading) {
+                one.0 = Found::OtherReset;
+            }
+        }
         (4, 0) if event.fields[1] & (2 | 4 | 16 | 32) != 0 => {
             let (found, refused) = readings[event.fields[0] as usize];
             reached.threshold(found, refused);
