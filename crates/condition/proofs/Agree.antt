@@ -33,14 +33,11 @@ use Rattle.band.specs.Rows.{freshRow, valueIn, lockUnder, settleRow, inSet, res
 use Rattle.band_columns.specs.Sets.{formedRow, heldBy}
 use Rattle.band.proofs.Settling.{settle-again, fresh-settles, fresh-reset}
 use Rattle.drive.specs.declared.Drive.{Drive}
-use Rattle.drive.specs.State.{withRows, withSensors, conditionsOf, rowAt, valueAt, settleOf, tickOf}
+use Rattle.drive.specs.State.{withRows, withSensors, conditionsOf, rowAt, sensorAt, valueAt, settleOf, tickOf}
 use Rattle.drive.specs.Events.{Shape, ticking, resetting, setting, sensing, placing, looking, shapeOf, ifSetting, actBy}
 use Rattle.drive.specs.Events.{Event, bandSet, noRow, rowRefusalsIf, refusalsBy, heldUnder, formedFrom, answerOf, resetOf, actOf, stepOf}
 use Rattle.condition.specs.History.{granted}
 use Rattle.condition.specs.Compared.{staysBy, mentionedIn, refersIn, stays}
-
-abbrev pub sensorAt : Drive → ℕ → Sensor
-sensorAt d s = getD (d .sensors) s freshSensor
 
 -- ---- one row of a drive
 

@@ -91,6 +91,9 @@ conditionsOf d = conditionsBelow (d .«sensor_count») (d .sensors)
 abbrev pub rowAt : Drive → ℕ → Row
 rowAt d band = getD (d .rows) band freshRow
 
+abbrev pub sensorAt : Drive → ℕ → Sensor
+sensorAt d sensor = getD (d .sensors) sensor freshSensor
+
 -- the value of a band's expression
 abbrev pub valueAt : Drive → ℕ → Bool
 valueAt d band = valueIn (conditionsOf d) (rowAt d band)

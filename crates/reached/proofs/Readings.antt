@@ -2,13 +2,12 @@
 use mathlib.Core.Path.{_≡_, refl, sym, ap, _∙_, subst}
 use Prim.Native.Nat.{ℕ, zero, suc, _≤_}
 use native.Mathlib.Omega.{arith}
-use mathlib.Core.Bool.{Bool, true, false, not, cond}
+use mathlib.Core.Bool.{Bool, true, not, cond}
 use mathlib.Core.List.{List, [], _∷_, map}
-use lib.Dec.{eqb, ltb}
+use lib.Dec.{ltb}
 use lib.ListN.{length, getD}
 use borrow.Author.Tests.{ne-eqb, le-ltb}
 use Rattle.base.specs.Rows.{isRow, modify}
-use Rattle.base.proofs.Cases.{cond-either, cond-true}
 use Rattle.base.proofs.Lists.{getD-map}
 use Rattle.base.proofs.Rows.{row-is, modify-same}
 use Rattle.sensor.specs.declared.single.Sensor.{Sensor}
@@ -19,10 +18,12 @@ use Rattle.sensor.specs.Judging.{LastRead, NoReading}
 use Rattle.sensor.proofs.Judging.{judging}
 use Rattle.sensor.proofs.Motion.{fresh-power-cycle}
 use Rattle.drive.specs.declared.Drive.{Drive}
-use Rattle.drive.specs.State.{withSensors, settleOf}
+use Rattle.drive.specs.State.{withSensors, sensorAt, settleOf}
 use Rattle.drive.specs.Events.{Event, reading, reset, answerOf, actOf, stepOf}
 use Rattle.reached.specs.Reached.{Reached}
-use Rattle.reached.specs.Readings.{sensorAt, DriveReadings}
+use Rattle.drive.proofs.Answers.{granted-acts}
+use Rattle.drive.proofs.Keeping.{step-by}
+use Rattle.reached.specs.Readings.{DriveReadings}
 
 -- ---- the last reading once more
 
@@ -36,10 +37,9 @@ read-again : (v : ℕ) (s : Sensor) → UpToDate s → LastRead v s → readingO
 read-again v s j l = sym (judging .again v s l (omega (arith, l .value, j .kept .range))) ∙ judging .nothing-waits s j
 
 nothing-waits : (d : Drive) → Reached d → (i v : ℕ) → LastRead v (sensorAt d i) → stepOf d (reading i v) ≡ d
-unfolding stepOf actOf
+unfolding actOf
 nothing-waits d r i v l =
-    cond-either (λ (x : Drive). x ≡ d) (eqb (answerOf d (reading i v)) 0) (settleOf (actOf d (reading i v))) d
-    (λ e. ap (λ (m : List Sensor). settleOf (withSensors m d)) still ∙ r .settled) (λ e. refl)
+    step-by (λ x. x ≡ d) d (reading i v) (λ e. ap settleOf e ∙ r .settled) (ap (λ (m : List Sensor). withSensors m d) still) refl
   where
     still : modify (readingOf v) i (d .sensors) ≡ d .sensors
     still = modify-still (readingOf v) freshSensor (d .sensors) i (read-again v _ (r .shaped .sensors .each i .up-to-date) l)
@@ -53,10 +53,7 @@ settle-sensors d = refl
 
 -- the sensors after an event that is granted
 granted-sensors : (d : Drive) (e : Event) → answerOf d e ≡ 0 → stepOf d e .sensors ≡ actOf d e .sensors
-unfolding stepOf
-granted-sensors d e z =
-    ap (λ (x : Drive). x .sensors) (sym (cond-true (eqb (answerOf d e) 0) (settleOf (actOf d e)) d _ (ap (λ (n : ℕ). eqb n 0) z) refl))
-    ∙ settle-sensors (actOf d e)
+granted-sensors d e z = ap (λ (x : Drive). x .sensors) (sym (granted-acts d e 0 (sym z) refl .0)) ∙ settle-sensors (actOf d e)
 
 reading-granted : (d : Drive) (i v : ℕ) → isRow (d .«sensor_count») i ≡ true → v ≤ greatestReading → answerOf d (reading i v) ≡ 0
 unfolding answerOf
@@ -78,11 +75,10 @@ power-cycle d i =
     subst NoReading (sym (e ∙ getD-map powerCycleOf freshSensor fresh-power-cycle (d .sensors) i)) (judging .none-after (sensorAt d i))
 
 other-resets : (d : Drive) (type : ℕ) → (type ≡ 0 → ⊥) → stepOf d (reset type) .sensors ≡ d .sensors
-unfolding stepOf actOf
+unfolding actOf
 other-resets d type n =
-    cond-either (λ (x : Drive). x .sensors ≡ d .sensors) (eqb (answerOf d (reset type)) 0) (settleOf (actOf d (reset type))) d
-    (λ e. settle-sensors (actOf d (reset type)) ∙ ap (λ (b : Bool). cond b (map powerCycleOf (d .sensors)) (d .sensors)) (ne-eqb type 0 n))
-    (λ e. refl)
+    step-by (λ x. x .sensors ≡ d .sensors) d (reset type) (λ e. settle-sensors (actOf d (reset type)) ∙ e)
+    (ap (λ (b : Bool). cond b (map powerCycleOf (d .sensors)) (d .sensors)) (ne-eqb type 0 n)) refl
 
 pub drive-readings : DriveReadings
 drive-readings = record { nothing-waits = nothing-waits; kept = kept; power-cycle = power-cycle; other-resets = other-resets }

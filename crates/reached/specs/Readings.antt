@@ -2,18 +2,14 @@
 use Prim.Native.Nat.{ℕ, _≤_}
 use mathlib.Core.Path.{_≡_}
 use mathlib.Core.Bool.{true}
-use lib.ListN.{length, getD}
+use lib.ListN.{length}
 use Rattle.base.specs.Rows.{isRow}
-use Rattle.sensor.specs.declared.single.Sensor.{Sensor}
 use Rattle.sensor.specs.Level.{greatestReading}
-use Rattle.sensor.specs.Single.{freshSensor}
 use Rattle.sensor.specs.Judging.{LastRead, NoReading}
 use Rattle.drive.specs.declared.Drive.{Drive}
+use Rattle.drive.specs.State.{sensorAt}
 use Rattle.drive.specs.Events.{reading, reset, stepOf}
 use Rattle.reached.specs.Reached.{Reached}
-
-abbrev pub sensorAt : Drive → ℕ → Sensor
-sensorAt d i = getD (d .sensors) i freshSensor
 
 pub record DriveReadings : Type 0 where
   -- "Instructors wait in vain"; "01's "from the next reading" is dropped.": on a drive that events reach a sensor's last reading, sent once more,

@@ -39,5 +39,5 @@ pub record Judging : Type 0 where
   pub again : (v : ℕ) (s : Sensor) → LastRead v s → v ≤ greatestReading → judged s ≡ readingOf v s
   -- "With no reading the level stays.", and all else with it
   pub no-reading : (s : Sensor) → NoReading s → judged s ≡ s
-  -- and where the level is the one that the last reading gives, judging changes nothing, as it must where every sensor is so (`UpToDate`)
+  -- and where the level is the one that the last reading gives (`UpToDate`), judging changes nothing
   pub nothing-waits : (s : Sensor) → UpToDate s → judged s ≡ s
