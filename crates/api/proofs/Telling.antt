@@ -10,6 +10,7 @@ use lib.ListN.{length, getD, take, drop, replicate, length-append, length-map, l
 use lib.Seq.{take-append-seam}
 use borrow.Author.Tests.{le-leb, lt-leb, eq-eqb, ne-eqb}
 use Rattle.answer.specs.Numbers.{numberOf}
+use Rattle.output.specs.declared.Written.{Written}
 use Rattle.sensor_set.specs.declared.SensorColumns.{SensorColumns}
 use Rattle.band_columns.specs.declared.BandColumns.{BandColumns}
 use Rattle.expression.specs.declared.Element.{Element}
@@ -18,7 +19,6 @@ use Rattle.expression.specs.Elements.{blank, elementsIn}
 use Rattle.token_reader.specs.declared.Tokens.{Tokens}
 use Rattle.token_reader.specs.Format.{bytesOf}
 use Rattle.token_reader.specs.Read.{TokenOutcome, elements, refusal, answerIn, expressionIn, Tells, WrittenAgain}
-use Rattle.token_writer.specs.declared.Written.{Written}
 use Rattle.token_writer.specs.Write.{elementsOf, codesOf, Writes, ReadsBack}
 use Rattle.token_writer.proofs.Arms.{codes-taken, elements-taken}
 use Rattle.drive.specs.declared.Fresh.{Fresh}

@@ -7,10 +7,11 @@ use mathlib.Core.List.{List}
 use lib.Dec.{eqb, leb}
 use lib.ListN.{length, getD, take}
 use Rattle.base.specs.Refusals.{applying}
+use Rattle.output.specs.Filling.{writtenAfter, outputAfter}
 use Rattle.sensor_set.specs.declared.SensorColumns.{SensorColumns}
 use Rattle.token_reader.specs.Format.{bytesOf}
 use Rattle.token_reader.specs.Read.{TokenOutcome, elements, refusal, readTokens}
-use Rattle.token_writer.specs.Write.{codesOf, elementsOf, writeAnswer, writtenAfter, outputAfter}
+use Rattle.token_writer.specs.Write.{codesOf, elementsOf, writeAnswer}
 use Rattle.band_columns.specs.declared.BandColumns.{BandColumns}
 use Rattle.drive.specs.declared.Drive.{Drive}
 use Rattle.drive.specs.declared.Kind.{Kind}

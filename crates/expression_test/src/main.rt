@@ -10,7 +10,7 @@ ghost use lib.ListN.{length};
 use answer::Answer;
 use expression::Expression;
 use expression::Part;
-use token_writer::Written;
+use output::Written;
 
 // What an output holds before the writer is called, and how much of it there is.
 const BLANK: u8 = 0xEE;

@@ -12,17 +12,18 @@ use mir.Val.{Fits}
 use borrow.Author.Tests.{lt-ltb, le-ltb, not-true, not-false}
 use Rattle.base.specs.Spliced.{spliced}
 use Rattle.base.proofs.Cases.{cond-true, cond-false, behind, absent}
-use Rattle.base.proofs.Spliced.{splice-twice}
 use Rattle.answer.specs.declared.Answer.{Answer}
 use Rattle.answer.specs.declared.Answer.the-variants.{Done, OutOfRange, TooLong, ShortBuffer}
 use Rattle.answer.specs.Numbers.{numberOf}
+use Rattle.output.specs.declared.Written.{Written}
+use Rattle.output.specs.Filling.{splicedWithin, outputAfter, writtenAfter}
+use Rattle.output.proofs.Filled.{put-twice}
 use Rattle.expression.specs.declared.Element.{Element}
 use Rattle.expression.specs.declared.Expression.{Expression}
 use Rattle.expression.specs.Elements.{element, elementsIn}
 use Rattle.expression.specs.declared.Part.{Part}
 use Rattle.expression.specs.declared.Part.the-variants.{Reference, Operator}
 use Rattle.token_reader.specs.Format.{referencePrefix, operatorPrefix, widthOf, partBytes, bytesOf}
-use Rattle.token_writer.specs.declared.Written.{Written}
 use Rattle.token_writer.specs.Write.{
   partOf,
   codeOf,
@@ -31,8 +32,6 @@ use Rattle.token_writer.specs.Write.{
   elementsOf,
   neededFor,
   writeAnswer,
-  outputAfter,
-  writtenAfter,
   Writes,
   ReadsBack,
 }
@@ -49,28 +48,21 @@ back-reference p n e h = part-back (Reference n) (omega (arith, h)) ∙ sym e
 pub back-operator : (p : Part) (n : ℕ) → p ≡ Operator n → partOf (4294967296 + n) ≡ p
 back-operator p n e = operator-back n ∙ sym e
 
--- one element: there is room for its first bytes and for its last, and the two are its bytes
+-- one element: its first bytes and its last, where there is room for both
 
-module _ (p q : Part) (at : ℕ) (d : List ℕ) (e : p ≡ q) (room : at + widthOf p ≤ length d) where
-  wide : at + widthOf q ≤ length d
-  wide = rw e at room
-
-  pub room-first : (a : ℕ) → a ≤ widthOf q → at + a ≤ length d
-  room-first a h = omega (arith, wide)
-
-  pub room-last : (a b : ℕ) (next : List ℕ) → a + b ≡ widthOf q → length next ≡ length d → at + a + b ≤ length next
-  room-last a b next h k = omega (arith, wide)
-
-pub put-reference : (p : Part) (row at : ℕ) (d next last : List ℕ) → p ≡ Reference row → at + widthOf p ≤ length d
-    → next ≡ spliced d at referencePrefix
-    → last ≡ spliced next (at + 7) (row / 16777216 ∷ row / 65536 % 256 ∷ row / 256 % 256 ∷ row % 256 ∷ 0xF3 ∷ [])
+pub put-reference : (p : Part) (row at : ℕ) (d next last : List ℕ) → p ≡ Reference row → at + widthOf p ≤ length d → length next ≡ length d
+    → next ≡ splicedWithin d at referencePrefix
+    → last ≡ splicedWithin next (at + 7) (row / 16777216 ∷ row / 65536 % 256 ∷ row / 256 % 256 ∷ row % 256 ∷ 0xF3 ∷ [])
     → last ≡ spliced d at (partBytes p)
-put-reference p row at d next last e room f g =
-    rw (e, g, f) (splice-twice d at referencePrefix (row / 16777216 ∷ row / 65536 % 256 ∷ row / 256 % 256 ∷ row % 256 ∷ 0xF3 ∷ []) (omega arith))
+put-reference p row at d next last e room k f g =
+    let h : at + 12 ≤ length d = rw e at room in
+    rw e (put-twice d at referencePrefix (row / 16777216 ∷ row / 65536 % 256 ∷ row / 256 % 256 ∷ row % 256 ∷ 0xF3 ∷ []) next last (omega arith) k f g)
 
-pub put-operator : (p : Part) (code at : ℕ) (d next last : List ℕ) → p ≡ Operator code → at + widthOf p ≤ length d
-    → next ≡ spliced d at operatorPrefix → last ≡ spliced next (at + 6) (code ∷ 0xF3 ∷ []) → last ≡ spliced d at (partBytes p)
-put-operator p code at d next last e room f g = rw (e, g, f) (splice-twice d at operatorPrefix (code ∷ 0xF3 ∷ []) (omega arith))
+pub put-operator : (p : Part) (code at : ℕ) (d next last : List ℕ) → p ≡ Operator code → at + widthOf p ≤ length d → length next ≡ length d
+    → next ≡ splicedWithin d at operatorPrefix → last ≡ splicedWithin next (at + 6) (code ∷ 0xF3 ∷ []) → last ≡ spliced d at (partBytes p)
+put-operator p code at d next last e room k f g =
+    let h : at + 8 ≤ length d = rw e at room in
+    rw e (put-twice d at operatorPrefix (code ∷ 0xF3 ∷ []) next last (omega arith) k f g)
 
 -- the writer's answers
 

@@ -1,15 +1,15 @@
 -- The writer and the reader, one after the other, said of their contracts; and both round trips.
 use mathlib.Core.Path.{_≡_, refl, sym, ap, _∙_}
-use Prim.Native.Nat.{ℕ, _+_, _≤_}
+use Prim.Native.Nat.{ℕ, _≤_}
 use native.Mathlib.Omega.{arith}
 use mathlib.Core.Bool.{true, false}
 use mathlib.Core.List.{List}
-use lib.ListN.{length, take, drop, length-map}
-use lib.Seq.{take-append-seam}
+use lib.ListN.{length, take, length-map}
 use borrow.Author.Tests.{le-ltb, ltb-false, not-false}
-use Rattle.base.specs.Spliced.{spliced}
 use Rattle.base.proofs.Refusals.{appliesAt, none-applies}
 use Rattle.answer.specs.Numbers.{numberOf}
+use Rattle.output.specs.declared.Written.{Written}
+use Rattle.output.proofs.Filled.{written-bytes}
 use Rattle.expression.specs.declared.Element.{Element}
 use Rattle.expression.specs.Elements.{elementsIn, AllFit}
 use Rattle.token_reader.specs.declared.Tokens.{Tokens}
@@ -18,7 +18,6 @@ use Rattle.token_reader.specs.Format.{bytesOf}
 use Rattle.token_reader.specs.Read.{elements, readTokens, answerIn, expressionIn, Reads}
 use Rattle.token_reader.proofs.Fits.{read-fits}
 use Rattle.token_reader.proofs.Again.{written-read, accepted-read}
-use Rattle.token_writer.specs.declared.Written.{Written}
 use Rattle.token_writer.specs.Write.{elementsOf, codesOf, codesFit, neededFor, writeRefusals, writeAnswer, Writes, ReadsBack}
 use Rattle.token_writer.specs.RoundTrips.{ReadBack, Holds, RoundTrips}
 use Rattle.token_writer.proofs.RoundTrip.{needed-is, codes-back, codes-fit, numbers-fit, tokens-written}
@@ -35,20 +34,17 @@ module _ (codes out : List ℕ) (w : Written) (after : List ℕ) (h : Writes cod
   done-few : length (elementsOf codes) ≤ 32
   done-few = rw (length-map codes) (ltb-false 32 (length codes) (none-applied 1))
 
-  done-count : w .count ≡ length (bytesOf (elementsOf codes))
-  done-count = rw e at (h .count)
-
-  done-bytes : take (w .count) after ≡ bytesOf (elementsOf codes)
+  done-bytes : Holds (bytesOf (elementsOf codes)) w after
   done-bytes =
-      let o : after ≡ spliced out 0 (bytesOf (elementsOf codes)) = rw e at (h .output) in
-      rw (done-count, o) (take-append-seam (bytesOf (elementsOf codes)) (drop (0 + length (bytesOf (elementsOf codes))) out))
+      let b = written-bytes _ _ (bytesOf (elementsOf codes)) out after e (h .count) (h .output) in
+      record { done = h .answer ∙ e; count = b .0; same = b .1 }
 
 -- what is written is read back
 
 pub reads-back : (codes out : List ℕ) (w : Written) (after : List ℕ) → Writes codes out w after → ReadsBack (elementsOf codes) w after
 reads-back codes out w after h z =
     let e : writeAnswer codes (length out) ≡ 0 = sym (h .answer) ∙ z in
-    ap readTokens (done-bytes codes out w after h e)
+    ap readTokens (done-bytes codes out w after h e .same)
     ∙ tokens-written (elementsOf codes) (done-few codes out w after h e) (numbers-fit codes (done-fits codes out w after h e))
 
 -- both promises of the writer
@@ -69,11 +65,7 @@ module _ (es : List Element) (out after : List ℕ) (w : Written) (short : lengt
   )
 
   writes-all : Holds (bytesOf es) w after
-  writes-all = record {
-    done = h .answer ∙ accepts;
-    count = rw (codes-back es f) at (done-count (codesOf es) out w after h accepts);
-    same = rw (codes-back es f) at (done-bytes (codesOf es) out w after h accepts);
-  }
+  writes-all = rw (codes-back es f) at (done-bytes (codesOf es) out w after h accepts)
 
   write-then-read : (r : Tokens) → Reads (take (w .count) after) r → ReadBack es w r
   write-then-read r q =

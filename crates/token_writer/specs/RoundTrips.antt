@@ -6,12 +6,12 @@ use mathlib.Core.List.{List}
 use lib.ListN.{length, take}
 use Rattle.base.specs.Lists.{Bytes}
 use Rattle.answer.specs.Numbers.{numberOf}
+use Rattle.output.specs.declared.Written.{Written}
 use Rattle.expression.specs.declared.Element.{Element}
 use Rattle.expression.specs.Elements.{mostElements, elementsIn, expressionOf, AllFit}
 use Rattle.token_reader.specs.declared.Tokens.{Tokens}
 use Rattle.token_reader.specs.Format.{bytesOf}
 use Rattle.token_reader.specs.Read.{elements, readTokens, Reads}
-use Rattle.token_writer.specs.declared.Written.{Written}
 use Rattle.token_writer.specs.Write.{codesOf, neededFor, Writes}
 
 -- both calls are done, and the expression read is the list written

@@ -4,18 +4,18 @@ use Prim.Native.Nat.{ℕ, _+_, _-_}
 use mathlib.Core.Path.{_≡_}
 use mathlib.Core.Bool.{Bool, true, not, cond, _&&_}
 use mathlib.Core.List.{List, [], _∷_, map}
-use lib.Dec.{eqb, leb, ltb}
+use lib.Dec.{leb, ltb}
 use lib.ListN.{length, take}
 use Rattle.base.specs.Refusals.{Refusal, when, firstOf}
-use Rattle.base.specs.Spliced.{spliced}
 use Rattle.answer.specs.Numbers.{numberOf}
+use Rattle.output.specs.declared.Written.{Written}
+use Rattle.output.specs.Filling.{outputAfter, writtenAfter}
 use Rattle.expression.specs.declared.Part.{Part}
 use Rattle.expression.specs.declared.Part.the-variants.{Reference, Operator}
 use Rattle.expression.specs.declared.Element.{Element}
 use Rattle.expression.specs.Elements.{mostElements, element}
 use Rattle.token_reader.specs.Format.{widthOf, bytesOf}
 use Rattle.token_reader.specs.Read.{elements, readTokens}
-use Rattle.token_writer.specs.declared.Written.{Written}
 
 -- An element as a number: a row below 2^32, and 2^32 plus the code of an operator.
 abbrev pub partOf : ℕ → Part
@@ -51,14 +51,6 @@ writeRefusals codes room =
 
 unfoldable pub writeAnswer : List ℕ → ℕ → ℕ
 writeAnswer codes room = firstOf (writeRefusals codes room)
-
--- by the answer's number: the bytes from the start of the output and the rest as it was, or all as it was
-abbrev pub outputAfter : ℕ → List ℕ → List ℕ → List ℕ
-outputAfter answer bytes out = cond (eqb answer 0) (spliced out 0 bytes) out
-
--- and the number of bytes written
-abbrev pub writtenAfter : ℕ → List ℕ → ℕ
-writtenAfter answer bytes = cond (eqb answer 0) (length bytes) 0
 
 -- what the writer does with a list of numbers and an output
 pub record Writes (codes out : List ℕ) (r : Written) (after : List ℕ) : Type 0 where

@@ -20,17 +20,12 @@ use answer::Answer;
 use expression::Element;
 use expression::Expression;
 use expression::Part;
+use output::Written;
 use token_reader::ELEMENT_END;
 use token_reader::LIST_END;
 use token_reader::LIST_START;
 use token_reader::OPERATOR;
 use token_reader::REFERENCE;
-
-// What writing gives: the bytes written, 0 where it is refused.
-pub struct Written {
-    pub answer: Answer,
-    pub count: usize,
-}
 
 // A number of the element list that has the operator AND; below it the number is a row.
 pub const OPERATORS: u64 = 4_294_967_296;
@@ -85,18 +80,6 @@ fn needed(codes: &[u64]) -> usize
     total
 }
 
-// Copies bytes into the output from place `at` on.
-fn put(out: &mut [u8], at: usize, bytes: &[u8])
-    requires { ⌜ at + length (now bytes) ≤ length (now out) ⌝ }
-    ensures { λ _. ⌜ now (out .exit) ≡ spliced (now (out .entry)) at (now (bytes .entry)) ⌝ }
-{
-    let mut i = 0;
-    while i < bytes.len() {
-        out[at + i] = bytes[i];
-        i += 1;
-    }
-}
-
 // Writes one element from place `at` on.
 fn put_part(out: &mut [u8], at: usize, part: Part)
     requires { ⌜ at + widthOf part ≤ length (now out) ⌝ }
@@ -111,13 +94,13 @@ fn put_part(out: &mut [u8], at: usize, part: Part)
                 (row % 256) as u8,
                 ELEMENT_END,
             ];
-            put(out, at, &REFERENCE);
-            put(out, at + 7, &rest);
+            output::put(out, at, &REFERENCE);
+            output::put(out, at + 7, &rest);
         }
         Part::Operator(code) => {
             let rest = [code, ELEMENT_END];
-            put(out, at, &OPERATOR);
-            put(out, at + 6, &rest);
+            output::put(out, at, &OPERATOR);
+            output::put(out, at + 6, &rest);
         }
     }
 }

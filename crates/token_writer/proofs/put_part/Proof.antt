@@ -1,4 +1,4 @@
-use Rattle.token_writer.proofs.Arms.{room-first, room-last, put-reference, put-operator}
+use Rattle.token_writer.proofs.Arms.{put-reference, put-operator}
 use borrow.Author.Needs.{needs}
 use Rattle.token_writer.proofs.put_part.Statement.{statement}
 use Rattle.token_writer.proofs.put_part.Tie as tie
@@ -22,7 +22,7 @@ slice-aggregate-put : tie.Need-slice-aggregate-put
 slice-aggregate-put c = search needs
 
 put-requires : tie.Need-put-requires
-put-requires c κs = search (room-first, needs)
+put-requires c κs = search needs
 
 add-put : tie.Need-add-put
 add-put c = search needs
@@ -31,7 +31,7 @@ slice-aggregate-put-2 : tie.Need-slice-aggregate-put-2
 slice-aggregate-put-2 c = search needs
 
 put-requires-2 : tie.Need-put-requires-2
-put-requires-2 c κs = search (room-last, needs)
+put-requires-2 c κs = search needs
 
 enum-known-part-2 : tie.Need-enum-known-part-2
 enum-known-part-2 c = search needs
@@ -40,7 +40,7 @@ slice-aggregate-put-3 : tie.Need-slice-aggregate-put-3
 slice-aggregate-put-3 c = search needs
 
 put-requires-3 : tie.Need-put-requires-3
-put-requires-3 c κs = search (room-first, needs)
+put-requires-3 c κs = search needs
 
 add-put-2 : tie.Need-add-put-2
 add-put-2 c = search needs
@@ -49,7 +49,7 @@ slice-aggregate-put-4 : tie.Need-slice-aggregate-put-4
 slice-aggregate-put-4 c = search needs
 
 put-requires-4 : tie.Need-put-requires-4
-put-requires-4 c κs = search (room-last, needs)
+put-requires-4 c κs = search needs
 
 same-length : tie.Need-same-length
 same-length c = search needs

@@ -4,8 +4,8 @@ use mathlib.Core.Path.{_≡_, refl}
 use native.Mathlib.Numerals.{add-one}
 use native.Mathlib.Omega.{arith}
 use Prim.Native.Nat.{_≤_, _-_}
-use Rattle.token_writer.proofs.put.Statement.{statement}
-use Rattle.token_writer.proofs.put.Tie as tie
+use Rattle.output.proofs.copy.Statement.{statement}
+use Rattle.output.proofs.copy.Tie as tie
 
 abbrev Inv-loop : tie.InvT-loop
 Inv-loop out₀ at bytes i₀ out i = (i ≤ length bytes) × (out ≡ paste out₀ at bytes i) × (length out ≡ length out₀)
@@ -47,8 +47,8 @@ returns c =
     let e : l .i ≡ length (a .bytes .now) = omega arith in
     rw (l .inv .1, e, take-length)
 
-pub put-spec : {M : Type 1} → statement M
-put-spec =
+pub copy-spec : {M : Type 1} → statement M
+copy-spec =
     tie.close
     (tie.spec
     Inv-loop

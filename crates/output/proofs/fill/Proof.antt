@@ -1,0 +1,19 @@
+use Rattle.output.proofs.Filled.{fill-short, fill-done}
+use borrow.Author.Needs.{needs}
+use Rattle.output.proofs.fill.Statement.{statement}
+use Rattle.output.proofs.fill.Tie as tie
+
+returns : tie.Need-returns
+returns c = search fill-short
+
+copy-requires : tie.Need-copy-requires
+copy-requires c κs = search needs
+
+same-length : tie.Need-same-length
+same-length c = search needs
+
+returns-2 : tie.Need-returns-2
+returns-2 c = search fill-done
+
+pub fill-spec : {M : Type 1} → statement M
+fill-spec = tie.close (tie.spec returns copy-requires same-length returns-2)

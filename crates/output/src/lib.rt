@@ -1,0 +1,56 @@
+// How a writer fills its output (document 01, 'Expressions as tokens'; document 02, #102).
+ghost use mathlib.Core.Path.{_≡_};
+ghost use Prim.Native.Nat.{_+_, _≤_};
+ghost use lib.ListN.{length};
+ghost use Rattle.base.specs.Spliced.{spliced};
+ghost use Rattle.output.specs.Filling.{splicedWithin, Fills};
+use answer::Answer;
+
+// What writing gives: the bytes written, 0 where it is refused.
+pub struct Written {
+    pub answer: Answer,
+    pub count: usize,
+}
+
+// Copies bytes into the output from place `at` on.
+fn copy(out: &mut [u8], at: usize, bytes: &[u8])
+    requires { ⌜ at + length (now bytes) ≤ length (now out) ⌝ }
+    ensures { λ _. ⌜ now (out .exit) ≡ spliced (now (out .entry)) at (now (bytes .entry)) ⌝ }
+{
+    let mut i = 0;
+    while i < bytes.len() {
+        out[at + i] = bytes[i];
+        i += 1;
+    }
+}
+
+// Copies bytes into the output from place `at` on where they fit, and else leaves it.
+pub fn put(out: &mut [u8], at: usize, bytes: &[u8])
+    ensures { λ _. ⌜ now (out .exit) ≡ splicedWithin (now (out .entry)) at (now (bytes .entry)) ⌝ }
+{
+    if out.len() < bytes.len() {
+        return;
+    }
+    if out.len() - bytes.len() < at {
+        return;
+    }
+    copy(out, at, bytes);
+}
+
+// Writes bytes from the output's start. An output that is too short is left as it was.
+pub fn fill(bytes: &[u8], out: &mut [u8]) -> Written
+    ensures { λ r. ⌜ Fills (now (bytes .entry)) (now (out .entry)) r (now (out .exit)) ⌝ }
+{
+    let count = bytes.len();
+    if out.len() < count {
+        return Written {
+            answer: Answer::ShortBuffer,
+            count: 0,
+        };
+    }
+    copy(out, 0, bytes);
+    Written {
+        answer: Answer::Done,
+        count,
+    }
+}
