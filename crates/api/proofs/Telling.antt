@@ -28,13 +28,14 @@ use Rattle.drive.specs.declared.Kind.the-variants as K
 use Rattle.drive.specs.declared.Reply.{Reply}
 use Rattle.drive.specs.State.{mostBlocks, mostBands, mostSensors, headerFits, freshDrive, Freshens}
 use Rattle.drive.specs.Events.{Event, answerOf, stopsOf, eventOf, runOf, over, Replies}
-use Rattle.script.specs.Whole.{mostScriptBytes, mostEvents, Script, accepted, bad, readScript}
-use Rattle.run.specs.Outcome.{RunOutcome, outcome, outcomeIn, runScript}
+use Rattle.script.specs.Whole.{Script, accepted, bad}
 use Rattle.run.specs.declared.Ran.{Ran}
+use Rattle.run.specs.declared.LeftDrive.{LeftDrive}
+use Rattle.run.specs.Outcome.{RunOutcome, outcomeIn}
+use Rattle.run.specs.Left.{leaves, leftIn, leftBy}
 use Rattle.report.specs.declared.Listed.{Listed}
 use Rattle.report.specs.Listing.{Told, told, toldIn, listOf}
 use Rattle.report.proofs.Handing.{too-short, handed}
-use Rattle.report.proofs.Whole.{whole}
 use Rattle.api.specs.Exports.{
   written,
   leaving,
@@ -322,49 +323,32 @@ module _ (e : Event) (answer at own place : ℕ) (h : own ≡ refusedAnyway e) w
   pub unrun-placed : own ≡ 0 → (stops : ℕ) → answered answer stops at ≡ refusedEvent answer at e stops place
   unrun-placed q = unrun-by true (eq-eqb own 0 q)
 
--- what is left of a run: its answer, its place and its drive
-abbrev leftIn : RunOutcome → ℕ × ℕ × Drive
-leftIn (outcome answer place count drive answers stops) = (answer, place, drive)
-
-abbrev leftBy : Script → ℕ × ℕ × Drive
-leftBy (accepted capacity bands sensors es) = (0, 0, runOf (freshDrive capacity bands sensors) es)
-leftBy (bad place) = (10, place, freshDrive 1 1 0)
-
-module _ (s answers stops : List ℕ) (long : mostEvents ≤ length answers) (wide : mostEvents ≤ length stops) where
-  run-left : leftIn (runScript (readScript s) mostScriptBytes answers stops) ≡ leftBy (readScript s)
-  run-left = go (readScript s) refl
+-- an event on the drive that a script leaves
+module _ (script : Script) (r : LeftDrive) (left : leftIn r ≡ leftBy script) (number : ℕ) (e : number ≡ numberOf (r .answer)) (event : Event) (was place : ℕ) where
+  pub event-unrun : (answer place' : ℕ) → number ≢ 0 → ((k : ℕ) → answered answer k place' ≡ refusedEvent number (r .place) event k place)
+      → answered answer was place' ≡ eventOn script event was place
+  event-unrun answer place' z h = h was ∙ go script left
     where
-      go : (o : Script) → readScript s ≡ o → leftIn (runScript o mostScriptBytes answers stops) ≡ leftBy o
-      go (accepted capacity bands sensors es) q = ap leftIn (whole s answers stops long wide capacity bands sensors es q)
-      go (bad place) q = refl
+      go : (o : Script) → leftIn r ≡ leftBy o → refusedEvent number (r .place) event was place ≡ eventOn o event was place
+      go (accepted capacity bands sensors es) q = let n : numberOf (r .answer) ≡ 0 = cc in absurd (z (e ∙ n))
+      go (bad at) q = let n : numberOf (r .answer) ≡ 10 = cc in let p : r .place ≡ at = cc in rw (e, n, p)
 
-  module _ (r : Ran) (answers' stops' : List ℕ) (w : outcomeIn r answers' stops' ≡ runScript (readScript s) mostScriptBytes answers stops)
-      (number : ℕ) (e : number ≡ numberOf (r .answer)) (event : Event) (was place : ℕ) where
-    left : (numberOf (r .answer), r .place, r .drive) ≡ leftBy (readScript s)
-    left = ap leftIn w ∙ run-left
-
-    pub event-unrun : (answer place' : ℕ) → number ≢ 0 → ((k : ℕ) → answered answer k place' ≡ refusedEvent number (r .place) event k place)
-        → answered answer was place' ≡ eventOn (readScript s) event was place
-    event-unrun answer place' z h = h was ∙ go (readScript s) (e ∙ ap (λ (p : ℕ × ℕ × Drive). p .0) left) (ap (λ (p : ℕ × ℕ × Drive). p .1) left)
+  module _ (reply : Reply) (answer : ℕ) (z : number ≡ 0) (h : Replies (r .drive) event reply) (k : answer ≡ numberOf (reply .answer)) where
+    ran-event : answered answer (written answer (reply .stops) was) place ≡ eventOn script event was place
+    ran-event =
+        ap (λ (n : ℕ). answered n (written n (reply .stops) was) place) (k ∙ h .answer)
+        ∙ ap (λ (n : ℕ). answered (answerOf (r .drive) event) (written (answerOf (r .drive) event) n was) place) (h .stops)
+        ∙ go script left
       where
-        go : (o : Script) → number ≡ leftBy o .0 → r .place ≡ leftBy o .1 → refusedEvent number (r .place) event was place ≡ eventOn o event was place
-        go (accepted capacity bands sensors es) q p = absurd (z q)
-        go (bad at) q p = rw (q, p)
+        go : (o : Script) → leftIn r ≡ leftBy o
+            → answered (answerOf (r .drive) event) (written (answerOf (r .drive) event) (stopsOf (r .drive) event) was) place ≡ eventOn o event was place
+        go (accepted capacity bands sensors es) q =
+            let d : r .drive ≡ runOf (freshDrive capacity bands sensors) es = cc in
+            ap (λ (x : Drive). answered (answerOf x event) (written (answerOf x event) (stopsOf x event) was) place) d
+        go (bad at) q = let n : numberOf (r .answer) ≡ 10 = cc in absurd (omega (arith, z, e, n))
 
-    module _ (reply : Reply) (answer : ℕ) (z : number ≡ 0) (h : Replies (r .drive) event reply) (k : answer ≡ numberOf (reply .answer)) where
-      ran-event : answered answer (written answer (reply .stops) was) place ≡ eventOn (readScript s) event was place
-      ran-event =
-          ap (λ (n : ℕ). answered n (written n (reply .stops) was) place) (k ∙ h .answer)
-          ∙ ap (λ (n : ℕ). answered (answerOf (r .drive) event) (written (answerOf (r .drive) event) n was) place) (h .stops)
-          ∙ go (readScript s) (sym z ∙ e ∙ ap (λ (p : ℕ × ℕ × Drive). p .0) left) (ap (λ (p : ℕ × ℕ × Drive). p .2) left)
-        where
-          go : (o : Script) → 0 ≡ leftBy o .0 → r .drive ≡ leftBy o .2
-              → answered (answerOf (r .drive) event) (written (answerOf (r .drive) event) (stopsOf (r .drive) event) was) place ≡ eventOn o event was place
-          go (accepted capacity bands sensors es) q d = ap (λ (x : Drive). answered (answerOf x event) (written (answerOf x event) (stopsOf x event) was) place) d
-          go (bad at) q d = absurd (omega (arith, q))
+    pub event-refused : answer ≢ 0 → answered answer was place ≡ eventOn script event was place
+    event-refused q = ap (λ (b : Bool). answered answer (cond b (reply .stops) was) place) (sym (ne-eqb answer 0 q)) ∙ ran-event
 
-      pub event-refused : answer ≢ 0 → answered answer was place ≡ eventOn (readScript s) event was place
-      event-refused q = ap (λ (b : Bool). answered answer (cond b (reply .stops) was) place) (sym (ne-eqb answer 0 q)) ∙ ran-event
-
-      pub event-run : answer ≡ 0 → answered answer (reply .stops) place ≡ eventOn (readScript s) event was place
-      event-run q = ap (λ (b : Bool). answered answer (cond b (reply .stops) was) place) (sym (eq-eqb answer 0 q)) ∙ ran-event
+    pub event-run : answer ≡ 0 → answered answer (reply .stops) place ≡ eventOn script event was place
+    event-run q = ap (λ (b : Bool). answered answer (cond b (reply .stops) was) place) (sym (eq-eqb answer 0 q)) ∙ ran-event

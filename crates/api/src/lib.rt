@@ -5,7 +5,7 @@ ghost use Prim.Native.Nat.{ℕ, _≤_};
 ghost use lib.ListN.{length, getD};
 ghost use Rattle.token_reader.specs.Read.{readTokens};
 ghost use Rattle.drive.specs.Events.{eventOf};
-ghost use Rattle.script.specs.Whole.{mostEvents, readScript};
+ghost use Rattle.script.specs.Whole.{readScript};
 ghost use Rattle.drive.specs.Events.{over};
 ghost use Rattle.run.specs.Outcome.{runScript};
 ghost use Rattle.report.specs.Listing.{told, listing, listOf};
@@ -281,26 +281,17 @@ fn event_unrun(kind: Kind, tokens: &[u8], answer: u8, at: usize, place: &mut usi
     answer
 }
 
-// One event on the drive that a script leaves, by way of lent memory: a byte for each of the script's events in two buffers.
-fn event_by(
-    script: &[u8],
-    kind: Kind,
-    tokens: &[u8],
-    stops: &mut u64,
-    place: &mut usize,
-    answers: &mut [u8],
-    counts: &mut [u8],
-) -> u8
-    requires { ⌜ (mostEvents ≤ length (now answers)) × (mostEvents ≤ length (now counts)) ⌝ }
+// One event on the drive that a script leaves.
+fn event_by(script: &[u8], kind: Kind, tokens: &[u8], stops: &mut u64, place: &mut usize) -> u8
     ensures { λ r. ⌜ answered r (now (stops .exit)) (now (place .exit)) ≡ eventOn (readScript (now (script .entry))) (eventOf kind (now (tokens .entry))) (now (stops .entry)) (now (place .entry)) ⌝ }
 {
-    let ran = run::run(script, run::WHOLE, answers, counts);
-    let ran_answer = ran.answer;
-    let refusal = ran_answer.number();
+    let left = run::left(script);
+    let left_answer = left.answer;
+    let refusal = left_answer.number();
     if refusal != 0 {
-        return event_unrun(kind, tokens, refusal, ran.place, place);
+        return event_unrun(kind, tokens, refusal, left.place, place);
     }
-    let drive = ran.drive;
+    let drive = left.drive;
     let reply = events::apply(drive, kind, tokens);
     let answer = reply.answer;
     let number = answer.number();
@@ -331,15 +322,5 @@ pub extern "C" fn drive_event(
         return OUT_OF_RANGE;
     }
     let event = kind_of(kind, fields);
-    let mut answers = [0; run::MOST_EVENTS];
-    let mut counts = [0; run::MOST_EVENTS];
-    event_by(
-        script,
-        event,
-        tokens,
-        stops,
-        place,
-        &mut answers,
-        &mut counts,
-    )
+    event_by(script, event, tokens, stops, place)
 }

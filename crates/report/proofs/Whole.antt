@@ -4,29 +4,24 @@ use Prim.Native.Nat.{ℕ, zero, suc, _+_, _≤_, _<_}
 use native.Mathlib.Omega.{arith}
 use mathlib.Core.Bool.{Bool, cond}
 use mathlib.Core.List.{List, [], _∷_, _++_}
-use lib.ListN.{length, getD, drop, replicate, length-append, length-replicate}
-use lib.Seq.{take-all}
+use lib.ListN.{length, getD, drop, length-append}
 use borrow.Author.Tests.{le-leb}
 use Rattle.answer.specs.Numbers.{numberOf}
 use Rattle.drive.specs.State.{freshDrive}
 use Rattle.drive.specs.Events.{Event, answerOf, stopsOf, runOf, answersOf, stopsIn, over}
 use Rattle.drive.proofs.Keeping.{run-header, along-length}
 use Rattle.script.specs.Whole.{mostScriptBytes, mostEvents, Script, accepted, bad, readScript}
-use Rattle.script.proofs.Few.{few-events}
 use Rattle.run.specs.declared.Ran.{Ran}
-use Rattle.run.specs.Outcome.{RunOutcome, outcome, outcomeIn, runEvents, runScript}
+use Rattle.run.specs.Outcome.{RunOutcome, outcome, outcomeIn, runScript}
 use Rattle.reached.proofs.Reaching.{fresh-reached}
 use Rattle.run.proofs.Whole.{accepted-is}
+use Rattle.run.proofs.Leaving.{whole}
 use Rattle.report.specs.declared.Listed.{Listed}
 use Rattle.report.specs.Lines.{lines, eventLines, driveLines}
 use Rattle.report.specs.Listing.{mostListed, listing, Told, told, toldIn, listOf}
 use Rattle.report.specs.Parts.{Puts, Room, runLines, Sized}
 use Rattle.report.proofs.Short.{never-short}
 use Rattle.report.proofs.Handing.{handed, put-over}
-
--- a buffer that is made anew has its length
-pub made-long : (n : ℕ) → n ≤ length {A = ℕ} (replicate n 0)
-made-long n = omega (arith, length-replicate {A = ℕ} n 0)
 
 lines-same : (f g : ℕ → List ℕ) (n : ℕ) → ((i : ℕ) → i < n → f i ≡ g i) → lines f n ≡ lines g n
 unfolding lines
@@ -45,16 +40,7 @@ abbrev sizedIn : RunOutcome → Type 0
 sizedIn (outcome answer place count drive answers stops) = Sized count drive answers stops
 
 module _ (s answers stops : List ℕ) (long : mostEvents ≤ length answers) (wide : mostEvents ≤ length stops) where
-  -- a script that reads to its end is run whole
   module _ (capacity bands sensors : ℕ) (es : List Event) (q : readScript s ≡ accepted capacity bands sensors es) where
-    pub whole : runScript (accepted capacity bands sensors es) mostScriptBytes answers stops
-        ≡ outcome 0 0 (length es) (runOf (freshDrive capacity bands sensors) es) (over (answersOf (freshDrive capacity bands sensors) es) answers)
-        (over (stopsIn (freshDrive capacity bands sensors) es) stops)
-    whole =
-        let few = few-events s capacity bands sensors es q in
-        ap (λ (l : List Event). runEvents (freshDrive capacity bands sensors) l answers stops) (take-all mostScriptBytes es (omega (arith, few)))
-        ∙ rw (le-leb (length es) (length answers) (omega (arith, few, long)), le-leb (length es) (length stops) (omega (arith, few, wide)))
-
     accepted-lines : runLines (runScript (accepted capacity bands sensors es) mostScriptBytes answers stops) ≡ listing (accepted capacity bands sensors es)
     unfolding listing
     accepted-lines =
@@ -68,7 +54,7 @@ module _ (s answers stops : List ℕ) (long : mostEvents ≤ length answers) (wi
         let d = runOf fresh es in
         let g : driveLines (d .«band_count») (d .«sensor_count») d ≡ driveLines bands sensors d =
         ap (λ (n : ℕ). driveLines n (d .«sensor_count») d) (h .1) ∙ ap (λ (n : ℕ). driveLines bands n d) (h .2) in
-        ap runLines whole ∙ (λ i. e i ++ g i)
+        ap runLines (whole s answers stops long wide capacity bands sensors es q) ∙ (λ i. e i ++ g i)
 
     accepted-sized : sizedIn (runScript (accepted capacity bands sensors es) mostScriptBytes answers stops)
     unfolding freshDrive
@@ -76,7 +62,7 @@ module _ (s answers stops : List ℕ) (long : mostEvents ≤ length answers) (wi
         let fresh = freshDrive capacity bands sensors in
         let h = run-header capacity bands sensors es in
         let r = fresh-reached capacity bands sensors (accepted-is s capacity bands sensors es q .fits) .shaped .header in
-        subst sizedIn (sym whole) (record {
+        subst sizedIn (sym (whole s answers stops long wide capacity bands sensors es q)) (record {
           few-bands = omega (arith, h .1, r .few-bands);
           few-sensors = omega (arith, h .2, r .few-sensors);
           long = omega (arith, length-append (answersOf fresh es) (drop (length (answersOf fresh es)) answers), along-length answerOf fresh es);

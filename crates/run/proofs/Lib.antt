@@ -2,3 +2,4 @@ pub mod Taken
 pub mod Whole
 pub mod Holding
 pub mod Reaching
+pub mod Leaving

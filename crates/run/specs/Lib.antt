@@ -1,4 +1,5 @@
 pub mod Outcome
 pub mod Condition3
+pub mod Left
 pub mod Reached
 pub mod Parts

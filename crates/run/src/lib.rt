@@ -1,8 +1,12 @@
 // The run of a script (document 01, 'Script'): the events of a script, one after the other, from the fresh drive of its header.
 ghost use mathlib.Core.Path.{_≡_};
-ghost use Rattle.script.specs.Whole.{mostScriptBytes, readScript};
+ghost use Prim.Native.Nat.{_≤_};
+ghost use lib.ListN.{length};
+ghost use Rattle.script.specs.Whole.{mostEvents, mostScriptBytes, readScript};
+ghost use Rattle.reached.specs.Reached.{Reached};
 ghost use Rattle.run.specs.Condition3.{Condition3OfRun, Condition3OfTwo};
 ghost use Rattle.run.specs.Outcome.{outcomeIn, runScript};
+ghost use Rattle.run.specs.Left.{leftIn, leftBy};
 ghost use Rattle.run.specs.Reached.{RunReaches};
 ghost use Rattle.run.specs.Parts.{fewerOf, Refuses, RunsFirst};
 use answer::Answer;
@@ -28,6 +32,13 @@ pub struct Ran {
 pub struct RanTwo {
     pub first: Ran,
     pub second: Ran,
+}
+
+// The drive that a script leaves after its last event: the place is that of a bad script, else 0.
+pub struct LeftDrive {
+    pub answer: Answer,
+    pub place: usize,
+    pub drive: Drive,
 }
 
 // How many events to run: those asked for, or all where there are fewer.
@@ -114,4 +125,30 @@ pub fn run_two(
         first: one,
         second: two,
     }
+}
+
+// Runs a script whole by way of lent memory, a byte for each of its events in two buffers, and hands its drive over.
+fn left_by(script: &[u8], answers: &mut [u8], stops: &mut [u8]) -> LeftDrive
+    requires { ⌜ (mostEvents ≤ length (now answers)) × (mostEvents ≤ length (now stops)) ⌝ }
+    ensures { λ r. ⌜ leftIn r ≡ leftBy (readScript (now (script .entry))) ⌝ }
+    ensures reached { λ r. ⌜ Reached (r .drive) ⌝ }
+{
+    let ran = run(script, WHOLE, answers, stops);
+    let answer = ran.answer;
+    let drive = ran.drive;
+    LeftDrive {
+        answer,
+        place: ran.place,
+        drive,
+    }
+}
+
+// Runs a script whole and hands its drive over.
+pub fn left(script: &[u8]) -> LeftDrive
+    ensures { λ r. ⌜ leftIn r ≡ leftBy (readScript (now (script .entry))) ⌝ }
+    ensures reached { λ r. ⌜ Reached (r .drive) ⌝ }
+{
+    let mut answers = [0; MOST_EVENTS];
+    let mut stops = [0; MOST_EVENTS];
+    left_by(script, &mut answers, &mut stops)
 }

@@ -1,4 +1,4 @@
-use Rattle.report.proofs.Whole.{made-long, long-enough}
+use Rattle.report.proofs.Whole.{long-enough}
 use borrow.Author.Needs.{needs}
 use Rattle.report.proofs.list.Statement.{statement}
 use Rattle.report.proofs.list.Tie as tie
@@ -9,6 +9,6 @@ list-spec =
     (tie.spec
     (λ c. search needs)
     (λ c. search needs)
-    (λ c κs. (made-long 32766, made-long 32766))
+    (λ c κs. search needs)
     (λ c. search needs)
     (λ c. (search needs, search long-enough)))
