@@ -11,7 +11,8 @@
  *
  * Every function returns an answer of document 01's table. Where several apply, the lowest number is given, but of 3 and 4 the one that is
  * met first from the left. A refusal, that is any answer but 0, leaves every buffer and every number behind a pointer as it was, with two
- * exceptions, which document 01 makes: answer 10 writes the place, and drive_fresh writes the drive that it hands back.
+ * exceptions, which document 01 makes: answer 10 writes the place (to `*place`, or to `*length` where discovery_write gives it), and
+ * drive_fresh writes the drive that it hands back.
  */
 #ifndef DRIVE_H
 #define DRIVE_H
@@ -23,7 +24,7 @@
 extern "C" {
 #endif
 
-/* Document 01's answers. */
+/* Document 01's answers, and after them those of the requests. */
 enum drive_answer {
     DRIVE_DONE = 0,          /* nothing below applies */
     DRIVE_NO_ROW = 1,        /* the band or sensor is not below its count */
@@ -36,7 +37,8 @@ enum drive_answer {
     DRIVE_HELD = 8,          /* an unlock under a TRUE expression */
     DRIVE_LOCKED = 9,        /* a transfer touches a locked block */
     DRIVE_BAD_SCRIPT = 10,   /* the script cannot be read */
-    DRIVE_SHORT_BUFFER = 11  /* an output is shorter than needed */
+    DRIVE_SHORT_BUFFER = 11, /* an output is shorter than needed */
+    DRIVE_SHORT_ANSWER = 12  /* a discovery answer ends in its header or in a descriptor, or past its bytes */
 };
 
 /* The kinds of events, for drive_event. */
@@ -50,6 +52,16 @@ enum drive_kind {
     DRIVE_TRANSFER = 7
 };
 
+/* The flags of the Locking feature, for discovery_read (003, 10.2.14, table 23). */
+enum drive_flag {
+    DRIVE_FLAG_LOCKING_SUPPORTED = 1,
+    DRIVE_FLAG_LOCKING_ENABLED = 2,
+    DRIVE_FLAG_LOCKED = 4,
+    DRIVE_FLAG_MEDIA_ENCRYPTION = 8,
+    DRIVE_FLAG_MBR_ENABLED = 16,
+    DRIVE_FLAG_MBR_DONE = 32
+};
+
 /* An output of so many bytes is never too short for a listing. */
 #define DRIVE_MOST_LISTED 426486
 
@@ -58,6 +70,9 @@ enum drive_kind {
 
 /* No expression has more elements: an output of so many numbers is never too short for the elements that bytes are read to. */
 #define DRIVE_MOST_ELEMENTS 32
+
+/* Every discovery answer that is written has so many bytes. */
+#define DRIVE_DISCOVERY_BYTES 80
 
 /* An element of an expression as a number: below DRIVE_AND it is a reference to that row, and from DRIVE_AND on an operator. */
 #define DRIVE_AND (UINT64_C(1) << 32)
@@ -131,6 +146,28 @@ uint8_t tokens_read(const uint8_t *bytes, size_t bytes_len, uint64_t *out, size_
  * DRIVE_SHORT_BUFFER where the bytes do not fit. With all but the first it writes nothing.
  */
 uint8_t tokens_write(const uint64_t *codes, size_t codes_len, uint8_t *out, size_t out_len, size_t *count);
+
+/*
+ * discovery_write writes the Level 0 discovery answer (003, 10.2.14) of the drive that a script leaves after its last event from the start of
+ * `out`, which has room for `out_len` bytes, and its number of bytes, DRIVE_DISCOVERY_BYTES, to `*length`. The answer has the Locking feature
+ * and the Locking LBA Ranges Control feature. Of the flags, LockingSupported and MediaEncryption are 1, Locked is 1 where some band has a side
+ * that is enabled and locked, and the others are 0.
+ *
+ * It answers DRIVE_DONE; DRIVE_BAD_SCRIPT where any part of the script is bad, and then it writes the script's place to `*length`, and nothing
+ * else; or DRIVE_SHORT_BUFFER where `out` has room for fewer bytes, and then it writes nothing.
+ */
+uint8_t discovery_write(const uint8_t *script, size_t script_len, uint8_t *out, size_t out_len, size_t *length);
+
+/*
+ * discovery_read reads a Level 0 discovery answer, of this drive or another, and writes to `*locking` whether the Locking feature is there, to
+ * `*ranges` whether the Locking LBA Ranges Control feature is there, 0 or 1 each, and to `*flags` the six flags of the Locking feature (see
+ * enum drive_flag), those of the first where it is there more than once, and 0 where it is not there. A descriptor of another code, version or
+ * length is passed over, and so are reserved and vendor bytes, the header's revision, and all bytes after the end that its length field states.
+ *
+ * It answers DRIVE_DONE; or DRIVE_SHORT_ANSWER where there are fewer than the 48 bytes of the header, the stated end lies past the bytes or
+ * inside the header, or a descriptor runs past the end, and then it writes nothing.
+ */
+uint8_t discovery_read(const uint8_t *bytes, size_t bytes_len, uint8_t *locking, uint8_t *ranges, uint8_t *flags);
 
 #ifdef __cplusplus
 }

@@ -136,6 +136,43 @@ static void tokens(void)
     expect(kept(out + TOKENS, 1), "and no byte more");
 }
 
+/* The header of a discovery answer and its two features: the Locking feature with these flags, and the Locking LBA Ranges Control feature. */
+static int is_answer(const uint8_t *bytes, uint8_t flags)
+{
+    uint8_t answer[DRIVE_DISCOVERY_BYTES] = {0, 0, 0, 76, 0, 0, 0, 1};
+    const uint8_t locking[] = {0x00, 0x02, 0x10, 12, flags}, ranges[] = {0x04, 0x01, 0x10, 12};
+    memcpy(answer + 48, locking, sizeof locking);
+    memcpy(answer + 64, ranges, sizeof ranges);
+    return memcmp(bytes, answer, sizeof answer) == 0;
+}
+
+static void discovery(void)
+{
+    const uint8_t open_flags = DRIVE_FLAG_LOCKING_SUPPORTED | DRIVE_FLAG_MEDIA_ENCRYPTION, locked_flags = open_flags | DRIVE_FLAG_LOCKED;
+    uint8_t out[DRIVE_DISCOVERY_BYTES + 16], locking = BYTE, ranges = BYTE, flags = BYTE;
+    size_t length = BEFORE;
+    memset(out, BYTE, sizeof out);
+    expect(discovery_write(SCRIPT, WHOLE, out, DRIVE_DISCOVERY_BYTES - 1, &length) == DRIVE_SHORT_BUFFER, "79 bytes are too few for an answer");
+    expect(length == BEFORE && kept(out, sizeof out), "11 leaves the output and the length of an answer");
+    expect(discovery_write(SCRIPT, WHOLE + 1, out, sizeof out, &length) == DRIVE_BAD_SCRIPT, "a bad script has no answer");
+    expect(length == WHOLE && kept(out, sizeof out), "10 writes its place alone");
+    length = BEFORE;
+    expect(discovery_write(SCRIPT, WHOLE + 1, out, 0, &length) == DRIVE_BAD_SCRIPT && length == WHOLE, "10 before 11");
+    expect(discovery_write(SCRIPT, ELAPSE_AT, out, sizeof out, &length) == DRIVE_DONE, "the answer before the elapse is written");
+    expect(length == DRIVE_DISCOVERY_BYTES && is_answer(out, open_flags), "and no band is locked");
+    expect(discovery_write(SCRIPT, WHOLE, out, sizeof out, &length) == DRIVE_DONE, "the answer after the script is written");
+    expect(length == DRIVE_DISCOVERY_BYTES && is_answer(out, locked_flags), "and band 1 is locked");
+    expect(kept(out + DRIVE_DISCOVERY_BYTES, 16), "and no byte more than the answer");
+    expect(discovery_read(out, DRIVE_DISCOVERY_BYTES - 1, &locking, &ranges, &flags) == DRIVE_SHORT_ANSWER, "79 bytes are a short answer");
+    expect(discovery_read(out, 0, &locking, &ranges, &flags) == DRIVE_SHORT_ANSWER, "and so is none");
+    expect(locking == BYTE && ranges == BYTE && flags == BYTE, "12 writes nothing");
+    expect(discovery_read(out, sizeof out, &locking, &ranges, &flags) == DRIVE_DONE, "the answer is read, and the bytes behind it are not");
+    expect(locking == 1 && ranges == 1 && flags == locked_flags, "both features are there, and the flags are those that were written");
+    out[48 + 2] = 0x20;
+    expect(discovery_read(out, sizeof out, &locking, &ranges, &flags) == DRIVE_DONE, "an answer of another version is read");
+    expect(locking == 0 && ranges == 1 && flags == 0, "and its Locking feature is passed over");
+}
+
 int main(void)
 {
     listing();
@@ -143,6 +180,7 @@ int main(void)
     events();
     fresh();
     tokens();
+    discovery();
     printf("worked.c: %d tests of document 01's worked script over include/drive.h\n", tests);
     return 0;
 }

@@ -18,12 +18,13 @@ use Rattle.answer.specs.declared.Answer.the-variants.{
   Locked,
   BadScript,
   ShortBuffer,
+  ShortAnswer,
 }
 
 -- the answers in the order of the table
 abbrev table : List Answer
 table =
-    Done ∷ NoRow ∷ OutOfRange ∷ NotTokens ∷ TooLong ∷ Global ∷ PastEnd ∷ Overlap ∷ Held ∷ Locked ∷ BadScript ∷ ShortBuffer ∷ []
+    Done ∷ NoRow ∷ OutOfRange ∷ NotTokens ∷ TooLong ∷ Global ∷ PastEnd ∷ Overlap ∷ Held ∷ Locked ∷ BadScript ∷ ShortBuffer ∷ ShortAnswer ∷ []
 
 abbrev answerAt : ℕ → Answer
 answerAt n = getD table n Done
@@ -41,6 +42,7 @@ back Held = refl
 back Locked = refl
 back BadScript = refl
 back ShortBuffer = refl
+back ShortAnswer = refl
 
 pub number-injective : (a b : Answer) → numberOf a ≡ numberOf b → a ≡ b
 number-injective a b e = sym (back a) ∙ ap answerAt e ∙ back b

@@ -1,4 +1,4 @@
--- Document 01, 'The drive and its refusals': the table's columns 'No.' and 'Word'.
+-- Document 01, 'The drive and its refusals': the table's columns 'No.' and 'Word'; and what document 02 adds to them.
 use Prim.Native.Nat.{ℕ}
 use Rattle.answer.specs.declared.Answer.{Answer}
 use Rattle.answer.specs.declared.Answer.the-variants.{
@@ -14,6 +14,7 @@ use Rattle.answer.specs.declared.Answer.the-variants.{
   Locked,
   BadScript,
   ShortBuffer,
+  ShortAnswer,
 }
 
 abbrev pub numberOf : Answer → ℕ
@@ -41,3 +42,5 @@ numberOf Locked = 9
 numberOf BadScript = 10
 -- short buffer
 numberOf ShortBuffer = 11
+-- #102: "Turned away: 12 short answer"
+numberOf ShortAnswer = 12

@@ -1,4 +1,4 @@
-// The answers of document 01's table, by their words; every promise speaks of their numbers.
+// The answers of document 01's table and those that document 02 adds, by their words; every promise speaks of their numbers.
 ghost use mathlib.Core.Path.{_≡_};
 ghost use Rattle.answer.specs.Numbers.{numberOf};
 
@@ -15,10 +15,11 @@ pub enum Answer {
     Locked,
     BadScript,
     ShortBuffer,
+    ShortAnswer,
 }
 
 impl Answer {
-    // The answer's number in document 01's table.
+    // The answer's number in the table.
     pub fn number(self) -> u8
         ensures { λ r. ⌜ r ≡ numberOf self ⌝ }
     {
@@ -35,6 +36,7 @@ impl Answer {
             Answer::Locked => 9,
             Answer::BadScript => 10,
             Answer::ShortBuffer => 11,
+            Answer::ShortAnswer => 12,
         }
     }
 }

@@ -2,15 +2,18 @@
 use mathlib.Core.Path.{_≡_, refl, sym, ap, _∙_}
 use mathlib.Core.Logic.{_≢_}
 use Prim.Native.Nat.{ℕ, _-_, _<_, _≤_}
+use native.Mathlib.Nat.{zero-add}
 use native.Mathlib.Omega.{arith}
 use mathlib.Core.Bool.{Bool, true, false, cond}
 use mathlib.Core.List.{List, [], _++_}
-use lib.Dec.{eqb, leb}
+use lib.Dec.{eqb, leb, ltb}
 use lib.ListN.{length, getD, take, drop, replicate, length-append, length-map, length-replicate, List·getD-eq-default}
 use lib.Seq.{take-append-seam}
-use borrow.Author.Tests.{le-leb, lt-leb, eq-eqb, ne-eqb}
+use borrow.Author.Tests.{le-leb, lt-leb, lt-ltb, le-ltb, ltb-true, ltb-false, eq-eqb, ne-eqb}
+use Rattle.base.specs.Lists.{oneIf}
 use Rattle.answer.specs.Numbers.{numberOf}
 use Rattle.output.specs.declared.Written.{Written}
+use Rattle.output.specs.Filling.{outputAfter, writtenAfter, fillAnswer, Fills}
 use Rattle.sensor_set.specs.declared.SensorColumns.{SensorColumns}
 use Rattle.band_columns.specs.declared.BandColumns.{BandColumns}
 use Rattle.expression.specs.declared.Element.{Element}
@@ -33,6 +36,10 @@ use Rattle.run.specs.declared.Ran.{Ran}
 use Rattle.run.specs.declared.LeftDrive.{LeftDrive}
 use Rattle.run.specs.Outcome.{RunOutcome, outcomeIn}
 use Rattle.run.specs.Left.{leaves, leftIn, leftBy}
+use Rattle.discovery_answer.specs.declared.Features.{Features}
+use Rattle.discovery_answer.specs.declared.Shown.{Shown}
+use Rattle.discovery_answer.specs.Write.{discoveryOf}
+use Rattle.discovery_answer.specs.Read.{readAnswer, shownIn, Shows}
 use Rattle.report.specs.declared.Listed.{Listed}
 use Rattle.report.specs.Listing.{Told, told, toldIn, listOf}
 use Rattle.report.proofs.Handing.{too-short, handed}
@@ -58,6 +65,10 @@ use Rattle.api.specs.Exports.{
   eventOn,
   lastKind,
   eventTold,
+  discoveryTold,
+  ShownTold,
+  shownTo,
+  shownTold,
 }
 
 -- ---- a number beside a lent output
@@ -352,3 +363,77 @@ module _ (script : Script) (r : LeftDrive) (left : leftIn r ≡ leftBy script) (
 
     pub event-run : answer ≡ 0 → answered answer (reply .stops) place ≡ eventOn script event was place
     event-run q = ap (λ (b : Bool). answered answer (cond b (reply .stops) was) place) (sym (eq-eqb answer 0 q)) ∙ ran-event
+
+-- ---- the discovery answer
+
+-- a writer that fills its output, as it is told
+module _ (bytes lent after : List ℕ) (r : Written) (f : Fills bytes lent r after) where
+  abbrev toldBy : ℕ → Told
+  toldBy n = told n (writtenAfter n bytes) (outputAfter n bytes lent)
+
+  filled : told (numberOf (r .answer)) (r .count) after ≡ toldBy (fillAnswer bytes (length lent))
+  filled = rw (f .answer, f .count, f .output)
+
+  filled-short : length lent < length bytes → toldBy (fillAnswer bytes (length lent)) ≡ listOf bytes lent
+  unfolding fillAnswer
+  filled-short h = rw (lt-ltb (length lent) (length bytes) h, lt-leb (length bytes) (length lent) h)
+
+  filled-long : length bytes ≤ length lent → toldBy (fillAnswer bytes (length lent)) ≡ listOf bytes lent
+  unfolding fillAnswer
+  filled-long h = rw (le-ltb (length lent) (length bytes) h, le-leb (length bytes) (length lent) h, zero-add (length bytes))
+
+  filled-told : told (numberOf (r .answer)) (r .count) after ≡ listOf bytes lent
+  filled-told = filled ∙ go (ltb (length lent) (length bytes)) refl
+    where
+      go : (b : Bool) → ltb (length lent) (length bytes) ≡ b → toldBy (fillAnswer bytes (length lent)) ≡ listOf bytes lent
+      go true q = filled-short (ltb-true (length lent) (length bytes) q)
+      go false q = filled-long (ltb-false (length lent) (length bytes) q)
+
+module _ (script : Script) (r : LeftDrive) (left : leftIn r ≡ leftBy script) (number : ℕ) (e : number ≡ numberOf (r .answer)) (former : ℕ) (lent : List ℕ) where
+  pub discovery-unrun : number ≢ 0 → told number (r .place) lent ≡ discoveryTold former script lent
+  discovery-unrun z = go script left
+    where
+      go : (o : Script) → leftIn r ≡ leftBy o → told number (r .place) lent ≡ discoveryTold former o lent
+      go (accepted capacity bands sensors es) q = let n : numberOf (r .answer) ≡ 0 = cc in absurd (z (e ∙ n))
+      go (bad at) q = let n : numberOf (r .answer) ≡ 10 = cc in let p : r .place ≡ at = cc in rw (e, n, p)
+
+  module _ (z : number ≡ 0) (w : Written) (after : List ℕ) (f : Fills (discoveryOf (r .drive)) lent w after) (answer : ℕ) (k : answer ≡ numberOf (w .answer)) where
+    discovered : leaving former (listOf (discoveryOf (r .drive)) lent) ≡ discoveryTold former script lent
+    discovered = go script left
+      where
+        go : (o : Script) → leftIn r ≡ leftBy o → leaving former (listOf (discoveryOf (r .drive)) lent) ≡ discoveryTold former o lent
+        go (accepted capacity bands sensors es) q =
+            let d : r .drive ≡ runOf (freshDrive capacity bands sensors) es = cc in
+            ap (λ (x : Drive). leaving former (listOf (discoveryOf x) lent)) d
+        go (bad at) q = let n : numberOf (r .answer) ≡ 10 = cc in absurd (omega (arith, z, e, n))
+
+    as-told : told answer (w .count) after ≡ listOf (discoveryOf (r .drive)) lent
+    as-told = ap (λ (n : ℕ). told n (w .count) after) k ∙ filled-told (discoveryOf (r .drive)) lent after w f
+
+    pub discovery-refused : answer ≢ 0 → told answer former after ≡ discoveryTold former script lent
+    discovery-refused q = kept former answer (w .count) after (listOf (discoveryOf (r .drive)) lent) as-told q ∙ discovered
+
+    pub discovery-told : answer ≡ 0 → told answer (w .count) after ≡ discoveryTold former script lent
+    discovery-told q = noted former answer (w .count) after (listOf (discoveryOf (r .drive)) lent) as-told q ∙ discovered
+
+-- what is shown of an answer
+module _ (bytes : List ℕ) (r : Shown) (h : Shows bytes r) (answer : ℕ) (e : answer ≡ numberOf (r .answer)) (was was' was'' : ℕ) where
+  abbrev shownBy : ℕ → Features → ShownTold
+  shownBy n f = shownTo n (written n (oneIf (f .locking)) was) (written n (oneIf (f .ranges)) was') (written n (f .flags) was'')
+
+  shown-by : shownBy answer (r .features) ≡ shownTold bytes was was' was''
+  shown-by = ap (λ (n : ℕ). shownBy n (r .features)) (e ∙ h .answer) ∙ ap (shownBy (readAnswer bytes)) (h .features)
+
+  pub shown-refused : answer ≢ 0 → shownTo answer was was' was'' ≡ shownTold bytes was was' was''
+  shown-refused q =
+      ap (λ (b : Bool). shownTo answer (cond b (oneIf (r .features .locking)) was) (cond b (oneIf (r .features .ranges)) was') (cond b (r .features .flags) was''))
+      (sym (ne-eqb answer 0 q))
+      ∙ shown-by
+
+  pub shown-told : (locking ranges : ℕ) → answer ≡ 0 → locking ≡ oneIf (r .features .locking) → ranges ≡ oneIf (r .features .ranges)
+      → shownTo answer locking ranges (r .features .flags) ≡ shownTold bytes was was' was''
+  shown-told locking ranges q l m =
+      rw (l, m)
+      (ap (λ (b : Bool). shownTo answer (cond b (oneIf (r .features .locking)) was) (cond b (oneIf (r .features .ranges)) was') (cond b (r .features .flags) was''))
+      (sym (eq-eqb answer 0 q))
+      ∙ shown-by)

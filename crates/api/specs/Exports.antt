@@ -6,6 +6,7 @@ use mathlib.Core.Bool.{true, cond, _&&_}
 use mathlib.Core.List.{List}
 use lib.Dec.{eqb, leb}
 use lib.ListN.{length, getD, take}
+use Rattle.base.specs.Lists.{oneIf}
 use Rattle.base.specs.Refusals.{applying}
 use Rattle.output.specs.Filling.{writtenAfter, outputAfter}
 use Rattle.sensor_set.specs.declared.SensorColumns.{SensorColumns}
@@ -18,6 +19,8 @@ use Rattle.drive.specs.declared.Kind.{Kind}
 use Rattle.drive.specs.declared.Kind.the-variants as K
 use Rattle.drive.specs.State.{mostBlocks, mostBands, mostSensors, headerFits, freshDrive}
 use Rattle.drive.specs.Events.{Event, refusals, answerOf, stopsOf, eventOf, runOf}
+use Rattle.discovery_answer.specs.Write.{discoveryOf}
+use Rattle.discovery_answer.specs.Read.{readAnswer, shownIn}
 use Rattle.numbers.specs.Groups.{badScript}
 use Rattle.event_reader.specs.Fields.{kinds}
 use Rattle.script.specs.Whole.{Script, accepted, bad}
@@ -148,3 +151,23 @@ lastKind = length kinds
 abbrev pub eventTold : Script → ℕ → List ℕ → List ℕ → (stops place : ℕ) → EventTold
 eventTold script kind fields tokens stops place =
     cond (leb 1 kind && leb kind lastKind) (eventOn script (eventOf (kindOf kind fields) tokens) stops place) (answered 2 stops place)
+
+-- ---- the discovery answer (document 02, #102)
+
+-- Of the drive that a script leaves: "fill their output as the token writer does, 11 included". Before that 10: "Answer 10 carries a place",
+-- which stands where the length would.
+abbrev pub discoveryTold : (former : ℕ) → Script → List ℕ → Told
+discoveryTold former (accepted capacity bands sensors es) lent = leaving former (listOf (discoveryOf (runOf (freshDrive capacity bands sensors) es)) lent)
+discoveryTold former (bad at) lent = told badScript at lent
+
+-- what is shown of an answer: the answer's number, "whether each of the two is there and the Locking feature's flags"
+pub data ShownTold : Type 0 where
+  shownTo : (answer locking ranges flags : ℕ) → ShownTold
+
+-- with the numbers that stood there before, where it is 12 "short answer"
+abbrev pub shownTold : List ℕ → (locking ranges flags : ℕ) → ShownTold
+shownTold bytes locking ranges flags =
+    let answer = readAnswer bytes in
+    let features = shownIn bytes in
+    shownTo answer (written answer (oneIf (features .locking)) locking) (written answer (oneIf (features .ranges)) ranges)
+    (written answer (features .flags) flags)

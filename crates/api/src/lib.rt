@@ -3,6 +3,7 @@
 ghost use mathlib.Core.Path.{_≡_};
 ghost use Prim.Native.Nat.{ℕ, _≤_};
 ghost use lib.ListN.{length, getD};
+ghost use Rattle.base.specs.Lists.{oneIf};
 ghost use Rattle.token_reader.specs.Read.{readTokens};
 ghost use Rattle.drive.specs.Events.{eventOf};
 ghost use Rattle.script.specs.Whole.{readScript};
@@ -27,6 +28,9 @@ ghost use Rattle.api.specs.Exports.{
   refusedEvent,
   eventOn,
   eventTold,
+  discoveryTold,
+  shownTo,
+  shownTold,
 };
 use band_columns::BandColumns;
 use drive::Drive;
@@ -323,4 +327,60 @@ pub extern "C" fn drive_event(
     }
     let event = kind_of(kind, fields);
     event_by(script, event, tokens, stops, place)
+}
+
+// The discovery answer of the drive that a script leaves, from the output's start, and its length; or the place of a bad script, which is
+// told where the length would be.
+#[no_mangle]
+pub extern "C" fn discovery_write(script: &[u8], out: &mut [u8], length: &mut usize) -> u8
+    ensures { λ r. ⌜ told r (now (length .exit)) (now (out .exit)) ≡ discoveryTold (now (length .entry)) (readScript (now (script .entry))) (now (out .entry)) ⌝ }
+{
+    let left = run::left(script);
+    let left_answer = left.answer;
+    let refusal = left_answer.number();
+    if refusal != 0 {
+        *length = left.place;
+        return refusal;
+    }
+    let drive = left.drive;
+    let written = discovery_answer::write(drive, out);
+    let answer = written.answer;
+    let number = answer.number();
+    if number != 0 {
+        return number;
+    }
+    *length = written.count;
+    number
+}
+
+fn one_if(b: bool) -> u8
+    ensures { λ r. ⌜ r ≡ oneIf b ⌝ }
+{
+    if b {
+        return 1;
+    }
+    0
+}
+
+// What is shown of a discovery answer: whether each of the two features is there, 1 or 0, and the flags of the Locking feature.
+#[no_mangle]
+pub extern "C" fn discovery_read(
+    bytes: &[u8],
+    locking: &mut u8,
+    ranges: &mut u8,
+    flags: &mut u8,
+) -> u8
+    ensures { λ r. ⌜ shownTo r (now (locking .exit)) (now (ranges .exit)) (now (flags .exit)) ≡ shownTold (now (bytes .entry)) (now (locking .entry)) (now (ranges .entry)) (now (flags .entry)) ⌝ }
+{
+    let shown = discovery_answer::read(bytes);
+    let answer = shown.answer;
+    let number = answer.number();
+    if number != 0 {
+        return number;
+    }
+    let features = shown.features;
+    *locking = one_if(features.locking);
+    *ranges = one_if(features.ranges);
+    *flags = features.flags;
+    number
 }

@@ -1,5 +1,5 @@
 use borrow.Author.Needs.{needs}
-use Rattle.program.proofs.Ending.{unread, ended}
+use Rattle.program.proofs.Ending.{not-read, ended}
 use Rattle.program.proofs.run.Statement.{statement}
 use Rattle.program.proofs.run.Tie as tie
 
@@ -18,8 +18,11 @@ slice-aggregate-complain c = search needs
 complain-requires : tie.Need-complain-requires
 complain-requires c κs = search needs
 
+unread-requires : tie.Need-unread-requires
+unread-requires c κs = search needs
+
 returns : tie.Need-returns
-returns c = search unread
+returns c = search not-read
 
 array-share-prefix-space : tie.Need-array-share-prefix-space
 array-share-prefix-space c = search needs
@@ -42,6 +45,7 @@ run-spec =
     read-all-requires
     slice-aggregate-complain
     complain-requires
+    unread-requires
     returns
     array-share-prefix-space
     slice-aggregate-print-listing

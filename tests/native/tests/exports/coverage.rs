@@ -1,4 +1,5 @@
 //! What the tests reached: answers, stops, moves of phases and levels, Sets of thresholds, places, and ways to be bad.
+use crate::discovery::Written;
 use crate::scripts::{Damage, DAMAGES};
 use std::collections::{BTreeMap, BTreeSet};
 
@@ -72,6 +73,7 @@ pub struct Coverage {
     places: BTreeSet<usize>,
     at_zero: u64,
     damages: BTreeMap<Damage, [u64; 2]>,
+    pub discovery: Written,
 }
 
 impl Coverage {
@@ -153,6 +155,7 @@ impl Coverage {
         for (how, [good, bad]) in &self.damages {
             println!("damage {how:?}: {bad} bad, {good} still read");
         }
+        self.discovery.finish();
         assert!(self.answers.iter().all(|&n| n > 0), "an answer was not reached");
         assert!(self.calls[0] > 0 && self.calls[10] > 0 && self.calls[11] > 0, "an answer of a run was not reached");
         assert!(MOVES.iter().all(|m| self.moves.contains_key(m)), "a move was not reached");

@@ -37,6 +37,20 @@ mod exported {
             stops: *mut u64,
             place: *mut usize,
         ) -> u8;
+        pub fn discovery_write(
+            script: *const u8,
+            script_len: usize,
+            out: *mut u8,
+            out_len: usize,
+            length: *mut usize,
+        ) -> u8;
+        pub fn discovery_read(
+            bytes: *const u8,
+            bytes_len: usize,
+            locking: *mut u8,
+            ranges: *mut u8,
+            flags: *mut u8,
+        ) -> u8;
     }
 }
 
@@ -69,6 +83,15 @@ pub struct Answered {
     pub answer: u8,
     pub stops: u64,
     pub place: usize,
+}
+
+/// What a discovery answer shows, or what the three numbers held before.
+#[derive(Debug, PartialEq)]
+pub struct Seen {
+    pub answer: u8,
+    pub locking: u8,
+    pub ranges: u8,
+    pub flags: u8,
 }
 
 impl Told {
@@ -152,4 +175,20 @@ pub fn event(script: &[u8], kind: u64, fields: &[u64], tokens: &[u8]) -> Answere
         )
     };
     Answered { answer, stops, place }
+}
+
+/// The discovery answer of the drive that the script leaves. On a bad script the count is its place.
+pub fn write_discovery(script: &[u8], out: &mut [u8]) -> Told {
+    let mut count = UNWRITTEN;
+    let answer =
+        unsafe { exported::discovery_write(script.as_ptr(), script.len(), out.as_mut_ptr(), out.len(), &mut count) };
+    Told { answer, count }
+}
+
+/// What a discovery answer shows, into numbers that hold beforehand what `before` has.
+pub fn read_discovery(bytes: &[u8], before: &Seen) -> Seen {
+    let Seen { mut locking, mut ranges, mut flags, .. } = *before;
+    let answer =
+        unsafe { exported::discovery_read(bytes.as_ptr(), bytes.len(), &mut locking, &mut ranges, &mut flags) };
+    Seen { answer, locking, ranges, flags }
 }

@@ -1,0 +1,5 @@
+pub mod Writing
+pub mod Walking
+pub mod Reading
+pub mod Descriptors
+pub mod Answering
