@@ -2,18 +2,19 @@
 use mathlib.Core.Path.{_≡_, refl, sym, ap, _∙_}
 use mathlib.Core.Logic.{_≢_}
 use Prim.Native.Nat.{ℕ, _-_, _<_, _≤_}
-use native.Mathlib.Nat.{zero-add}
 use native.Mathlib.Omega.{arith}
 use mathlib.Core.Bool.{Bool, true, false, cond}
 use mathlib.Core.List.{List, [], _++_}
-use lib.Dec.{eqb, leb, ltb}
-use lib.ListN.{length, getD, take, drop, replicate, length-append, length-map, length-replicate, List·getD-eq-default}
+use lib.Dec.{eqb, leb}
+use lib.ListN.{length, getD, take, replicate, length-append, length-map, length-replicate, List·getD-eq-default}
 use lib.Seq.{take-append-seam}
-use borrow.Author.Tests.{le-leb, lt-leb, lt-ltb, le-ltb, ltb-true, ltb-false, eq-eqb, ne-eqb}
+use borrow.Author.Tests.{le-leb, lt-leb, eq-eqb, ne-eqb}
 use Rattle.base.specs.Lists.{oneIf}
+use Rattle.base.specs.Spliced.{over}
 use Rattle.answer.specs.Numbers.{numberOf}
 use Rattle.output.specs.declared.Written.{Written}
-use Rattle.output.specs.Filling.{outputAfter, writtenAfter, fillAnswer, Fills}
+use Rattle.output.specs.Filling.{outputAfter, writtenAfter, Told, told, toldIn, fillAnswer, filledBy}
+use Rattle.output.proofs.Filled.{filled-short, filled-whole, written-bytes}
 use Rattle.sensor_set.specs.declared.SensorColumns.{SensorColumns}
 use Rattle.band_columns.specs.declared.BandColumns.{BandColumns}
 use Rattle.expression.specs.declared.Element.{Element}
@@ -30,7 +31,7 @@ use Rattle.drive.specs.declared.Kind.{Kind}
 use Rattle.drive.specs.declared.Kind.the-variants as K
 use Rattle.drive.specs.declared.Reply.{Reply}
 use Rattle.drive.specs.State.{mostBlocks, mostBands, mostSensors, headerFits, freshDrive, Freshens}
-use Rattle.drive.specs.Events.{Event, answerOf, stopsOf, eventOf, runOf, over, Replies}
+use Rattle.drive.specs.Events.{Event, answerOf, stopsOf, eventOf, runOf, Replies}
 use Rattle.script.specs.Whole.{Script, accepted, bad}
 use Rattle.run.specs.declared.Ran.{Ran}
 use Rattle.run.specs.declared.LeftDrive.{LeftDrive}
@@ -39,10 +40,7 @@ use Rattle.run.specs.Left.{leaves, leftIn, leftBy}
 use Rattle.discovery_answer.specs.declared.Features.{Features}
 use Rattle.discovery_answer.specs.declared.Shown.{Shown}
 use Rattle.discovery_answer.specs.Write.{discoveryOf}
-use Rattle.discovery_answer.specs.Read.{readAnswer, shownIn, Shows}
-use Rattle.report.specs.declared.Listed.{Listed}
-use Rattle.report.specs.Listing.{Told, told, toldIn, listOf}
-use Rattle.report.proofs.Handing.{too-short, handed}
+use Rattle.discovery_answer.specs.Read.{readAnswer, Shows}
 use Rattle.api.specs.Exports.{
   written,
   leaving,
@@ -73,22 +71,22 @@ use Rattle.api.specs.Exports.{
 
 -- ---- a number beside a lent output
 
-module _ (former number length : ℕ) (after : List ℕ) (t : Told) (h : told number length after ≡ t) where
+module _ (former number count : ℕ) (after : List ℕ) (t : Told) (h : told number count after ≡ t) where
   kept : number ≢ 0 → told number former after ≡ leaving former t
-  kept q = ap (λ (b : Bool). told number (cond b length former) after) (sym (ne-eqb number 0 q)) ∙ ap (leaving former) h
+  kept q = ap (λ (b : Bool). told number (cond b count former) after) (sym (ne-eqb number 0 q)) ∙ ap (leaving former) h
 
-  noted : number ≡ 0 → told number length after ≡ leaving former t
-  noted q = ap (λ (b : Bool). told number (cond b length former) after) (sym (eq-eqb number 0 q)) ∙ ap (leaving former) h
+  noted : number ≡ 0 → told number count after ≡ leaving former t
+  noted q = ap (λ (b : Bool). told number (cond b count former) after) (sym (eq-eqb number 0 q)) ∙ ap (leaving former) h
 
-module _ (former : ℕ) (r : Listed) (after : List ℕ) (t : Told) (number : ℕ) (e : number ≡ numberOf (r .answer)) (h : toldIn r after ≡ t) where
-  listed : told number (r .length) after ≡ t
-  listed = ap (λ (n : ℕ). told n (r .length) after) e ∙ h
+module _ (former : ℕ) (r : Written) (after : List ℕ) (t : Told) (number : ℕ) (e : number ≡ numberOf (r .answer)) (h : toldIn r after ≡ t) where
+  by-number : told number (r .count) after ≡ t
+  by-number = ap (λ (n : ℕ). told n (r .count) after) e ∙ h
 
-  pub list-refused : number ≢ 0 → told number former after ≡ leaving former t
-  list-refused = kept former number (r .length) after t listed
+  pub fill-refused : number ≢ 0 → told number former after ≡ leaving former t
+  fill-refused = kept former number (r .count) after t by-number
 
-  pub list-told : number ≡ 0 → told number (r .length) after ≡ leaving former t
-  list-told = noted former number (r .length) after t listed
+  pub fill-told : number ≡ 0 → told number (r .count) after ≡ leaving former t
+  fill-told = noted former number (r .count) after t by-number
 
 module _ (former : ℕ) (codes lent after : List ℕ) (r : Written) (number : ℕ) (e : number ≡ numberOf (r .answer)) (w : Writes codes lent r after) where
   wrote : told number (r .count) after ≡ writeInto codes lent
@@ -110,11 +108,11 @@ write-back codes after r number e b z = b (sym e ∙ z)
 
 -- numbers that are handed over, or do not fit
 module _ (former : ℕ) (codes lent : List ℕ) where
-  pub hand-refused : length lent < length codes → told 11 former lent ≡ leaving former (listOf codes lent)
-  hand-refused h = ap (leaving former) (too-short codes lent h)
+  pub hand-refused : length lent < length codes → told 11 former lent ≡ leaving former (filledBy codes lent)
+  hand-refused h = ap (leaving former) (filled-short codes lent h)
 
-  pub hand-told : (after : List ℕ) → length codes ≤ length lent → after ≡ over codes lent → told 0 (length codes) after ≡ leaving former (listOf codes lent)
-  hand-told after h e = ap (leaving former) (handed codes lent after h e)
+  pub hand-told : (after : List ℕ) → length codes ≤ length lent → after ≡ over codes lent → told 0 (length codes) after ≡ leaving former (filledBy codes lent)
+  hand-told after h e = ap (leaving former) (filled-whole codes lent after h e)
 
 -- ---- a run
 
@@ -181,40 +179,39 @@ module _ (r : Tokens) (codes : List ℕ) (c : codes ≡ codesOf (r .expression .
       go (refusal n) k = omega arith
 
   pub read-told : (o : TokenOutcome) (former : ℕ) (lent : List ℕ) (t : Told) (number : ℕ) → Tells o r → number ≡ numberOf (r .answer) → number ≡ 0
-      → t ≡ leaving former (listOf (take (r .expression .count) codes) lent) → t ≡ leaving former (readInto o lent)
+      → t ≡ leaving former (filledBy (take (r .expression .count) codes) lent) → t ≡ leaving former (readInto o lent)
   read-told o former lent t number h e z w =
       let k = ap (λ (x : Expression). codesOf (x .elements)) (h .expression) in
       w ∙ ap (leaving former) (go o (sym z ∙ e ∙ h .answer) (c ∙ k) (ap (λ (x : Expression). x .count) (h .expression)))
     where
       go : (o : TokenOutcome) → 0 ≡ answerIn o → codes ≡ codesOf (expressionIn o .elements) → r .expression .count ≡ expressionIn o .count
-          → listOf (take (r .expression .count) codes) lent ≡ readInto o lent
+          → filledBy (take (r .expression .count) codes) lent ≡ readInto o lent
       go (elements es) a k n =
           let p : take (length es) codes ≡ codesOf es =
           rw k (codes-taken (cellsOf es) (length es) ∙ ap codesOf (take-append-seam es (replicate (32 - length es) blank))) in
-          ap (λ (i : ℕ). listOf (take i codes) lent) n ∙ ap (λ (l : List ℕ). listOf l lent) p
+          ap (λ (i : ℕ). filledBy (take i codes) lent) n ∙ ap (λ (l : List ℕ). filledBy l lent) p
       go (refusal m) a k n =
-          let q : listOf [] lent ≡ told 0 0 lent = rw (le-leb 0 (length lent) (omega arith)) in
-          ap (λ (i : ℕ). listOf (take i codes) lent) n ∙ q ∙ ap (λ (k : ℕ). told k 0 lent) a
+          let q : filledBy [] lent ≡ told 0 0 lent = sym (filled-whole [] lent lent (omega arith) refl) in
+          ap (λ (i : ℕ). filledBy (take i codes) lent) n ∙ q ∙ ap (λ (k : ℕ). told k 0 lent) a
 
 -- what is read has the bytes that were read
 
 -- an output that is told to hold a list holds it from its start
-handed-first : (former : ℕ) (list lent after : List ℕ) (answer count : ℕ) → told answer count after ≡ leaving former (listOf list lent) → answer ≡ 0
+handed-first : (former : ℕ) (list lent after : List ℕ) (answer count : ℕ) → told answer count after ≡ leaving former (filledBy list lent) → answer ≡ 0
     → take count after ≡ list
-handed-first former list lent after answer count w z = go (leb (length list) (length lent)) w
-  where
-    go : (b : Bool) → told answer count after ≡ leaving former (cond b (told 0 (length list) (over list lent)) (told 11 0 lent)) → take count after ≡ list
-    go true w =
-        let c : count ≡ length list = cc in
-        let a : after ≡ over list lent = cc in
-        rw (c, a) (take-append-seam list (drop (length list) lent))
-    go false w = let q : answer ≡ 11 = cc in absurd (omega arith)
+handed-first former list lent after answer count w z =
+    let n = fillAnswer list (length lent) in
+    let a : answer ≡ n = cc in
+    let c : count ≡ written n (writtenAfter n list) former = cc in
+    let o : after ≡ outputAfter n list lent = cc in
+    let k : n ≡ 0 = sym a ∙ z in
+    written-bytes n count list lent after k (c ∙ ap (λ (b : Bool). cond b (writtenAfter n list) former) (eq-eqb n 0 k)) o .1
 
 pub refused-again : (bytes : List ℕ) (number count : ℕ) (after : List ℕ) → number ≢ 0 → WrittenAgainFrom bytes number count after
 refused-again bytes number count after q z = absurd (q z)
 
 pub read-again : (bytes : List ℕ) (r : Tokens) (codes lent after : List ℕ) (former number count answer : ℕ) → elementsOf codes ≡ r .expression .elements
-    → number ≡ numberOf (r .answer) → number ≡ 0 → WrittenAgain bytes r → told answer count after ≡ leaving former (listOf (take (r .expression .count) codes) lent)
+    → number ≡ numberOf (r .answer) → number ≡ 0 → WrittenAgain bytes r → told answer count after ≡ leaving former (filledBy (take (r .expression .count) codes) lent)
     → WrittenAgainFrom bytes answer count after
 read-again bytes r codes lent after former number count answer e n z b w q =
     let t : take count after ≡ take (r .expression .count) codes = handed-first former (take (r .expression .count) codes) lent after answer count w q in
@@ -366,29 +363,6 @@ module _ (script : Script) (r : LeftDrive) (left : leftIn r ≡ leftBy script) (
 
 -- ---- the discovery answer
 
--- a writer that fills its output, as it is told
-module _ (bytes lent after : List ℕ) (r : Written) (f : Fills bytes lent r after) where
-  abbrev toldBy : ℕ → Told
-  toldBy n = told n (writtenAfter n bytes) (outputAfter n bytes lent)
-
-  filled : told (numberOf (r .answer)) (r .count) after ≡ toldBy (fillAnswer bytes (length lent))
-  filled = rw (f .answer, f .count, f .output)
-
-  filled-short : length lent < length bytes → toldBy (fillAnswer bytes (length lent)) ≡ listOf bytes lent
-  unfolding fillAnswer
-  filled-short h = rw (lt-ltb (length lent) (length bytes) h, lt-leb (length bytes) (length lent) h)
-
-  filled-long : length bytes ≤ length lent → toldBy (fillAnswer bytes (length lent)) ≡ listOf bytes lent
-  unfolding fillAnswer
-  filled-long h = rw (le-ltb (length lent) (length bytes) h, le-leb (length bytes) (length lent) h, zero-add (length bytes))
-
-  filled-told : told (numberOf (r .answer)) (r .count) after ≡ listOf bytes lent
-  filled-told = filled ∙ go (ltb (length lent) (length bytes)) refl
-    where
-      go : (b : Bool) → ltb (length lent) (length bytes) ≡ b → toldBy (fillAnswer bytes (length lent)) ≡ listOf bytes lent
-      go true q = filled-short (ltb-true (length lent) (length bytes) q)
-      go false q = filled-long (ltb-false (length lent) (length bytes) q)
-
 module _ (script : Script) (r : LeftDrive) (left : leftIn r ≡ leftBy script) (number : ℕ) (e : number ≡ numberOf (r .answer)) (former : ℕ) (lent : List ℕ) where
   pub discovery-unrun : number ≢ 0 → told number (r .place) lent ≡ discoveryTold former script lent
   discovery-unrun z = go script left
@@ -397,24 +371,21 @@ module _ (script : Script) (r : LeftDrive) (left : leftIn r ≡ leftBy script) (
       go (accepted capacity bands sensors es) q = let n : numberOf (r .answer) ≡ 0 = cc in absurd (z (e ∙ n))
       go (bad at) q = let n : numberOf (r .answer) ≡ 10 = cc in let p : r .place ≡ at = cc in rw (e, n, p)
 
-  module _ (z : number ≡ 0) (w : Written) (after : List ℕ) (f : Fills (discoveryOf (r .drive)) lent w after) (answer : ℕ) (k : answer ≡ numberOf (w .answer)) where
-    discovered : leaving former (listOf (discoveryOf (r .drive)) lent) ≡ discoveryTold former script lent
+  module _ (z : number ≡ 0) (w : Written) (after : List ℕ) (f : toldIn w after ≡ filledBy (discoveryOf (r .drive)) lent) (answer : ℕ) (k : answer ≡ numberOf (w .answer)) where
+    discovered : leaving former (filledBy (discoveryOf (r .drive)) lent) ≡ discoveryTold former script lent
     discovered = go script left
       where
-        go : (o : Script) → leftIn r ≡ leftBy o → leaving former (listOf (discoveryOf (r .drive)) lent) ≡ discoveryTold former o lent
+        go : (o : Script) → leftIn r ≡ leftBy o → leaving former (filledBy (discoveryOf (r .drive)) lent) ≡ discoveryTold former o lent
         go (accepted capacity bands sensors es) q =
             let d : r .drive ≡ runOf (freshDrive capacity bands sensors) es = cc in
-            ap (λ (x : Drive). leaving former (listOf (discoveryOf x) lent)) d
+            ap (λ (x : Drive). leaving former (filledBy (discoveryOf x) lent)) d
         go (bad at) q = let n : numberOf (r .answer) ≡ 10 = cc in absurd (omega (arith, z, e, n))
 
-    as-told : told answer (w .count) after ≡ listOf (discoveryOf (r .drive)) lent
-    as-told = ap (λ (n : ℕ). told n (w .count) after) k ∙ filled-told (discoveryOf (r .drive)) lent after w f
-
     pub discovery-refused : answer ≢ 0 → told answer former after ≡ discoveryTold former script lent
-    discovery-refused q = kept former answer (w .count) after (listOf (discoveryOf (r .drive)) lent) as-told q ∙ discovered
+    discovery-refused q = fill-refused former w after (filledBy (discoveryOf (r .drive)) lent) answer k f q ∙ discovered
 
     pub discovery-told : answer ≡ 0 → told answer (w .count) after ≡ discoveryTold former script lent
-    discovery-told q = noted former answer (w .count) after (listOf (discoveryOf (r .drive)) lent) as-told q ∙ discovered
+    discovery-told q = fill-told former w after (filledBy (discoveryOf (r .drive)) lent) answer k f q ∙ discovered
 
 -- what is shown of an answer
 module _ (bytes : List ℕ) (r : Shown) (h : Shows bytes r) (answer : ℕ) (e : answer ≡ numberOf (r .answer)) (was was' was'' : ℕ) where

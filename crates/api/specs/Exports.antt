@@ -8,7 +8,7 @@ use lib.Dec.{eqb, leb}
 use lib.ListN.{length, getD, take}
 use Rattle.base.specs.Lists.{oneIf}
 use Rattle.base.specs.Refusals.{applying}
-use Rattle.output.specs.Filling.{writtenAfter, outputAfter}
+use Rattle.output.specs.Filling.{Told, told, toldBy, filledBy}
 use Rattle.sensor_set.specs.declared.SensorColumns.{SensorColumns}
 use Rattle.token_reader.specs.Format.{bytesOf}
 use Rattle.token_reader.specs.Read.{TokenOutcome, elements, refusal, readTokens}
@@ -25,7 +25,6 @@ use Rattle.numbers.specs.Groups.{badScript}
 use Rattle.event_reader.specs.Fields.{kinds}
 use Rattle.script.specs.Whole.{Script, accepted, bad}
 use Rattle.run.specs.Outcome.{RunOutcome, outcome}
-use Rattle.report.specs.Listing.{Told, told, listOf}
 
 -- "Any refusal leaves the drive and all lent bytes untouched", and a number behind a `&mut` too: only answer 0 writes it
 abbrev pub written : (answer new former : ℕ) → ℕ
@@ -33,7 +32,7 @@ written answer new former = cond (eqb answer 0) new former
 
 -- what is told of a lent output, with the number that stood beside it before
 abbrev pub leaving : (former : ℕ) → Told → Told
-leaving former (told answer length output) = told answer (written answer length former) output
+leaving former (told answer count output) = told answer (written answer count former) output
 
 -- a run: answer, place, number of events and the two buffers; its drive is not handed over
 pub data RunTold : Type 0 where
@@ -46,15 +45,12 @@ runTold place count (outcome answer at ran drive answers stops) =
 
 -- tokens read: the elements from the start of the output, 11 where they do not fit ("short buffer"); or 2, 3 or 4, and the output as it was
 abbrev pub readInto : TokenOutcome → List ℕ → Told
-readInto (elements es) lent = listOf (codesOf es) lent
+readInto (elements es) lent = filledBy (codesOf es) lent
 readInto (refusal answer) lent = told answer 0 lent
 
--- tokens written: "It fills exactly the bytes needed from the start of the output"; or 2, 4 or 11, and the output as
--- it was
+-- tokens written: "It fills exactly the bytes needed from the start of the output"; or 2, 4 or 11, and the output as it was
 abbrev pub writeInto : List ℕ → List ℕ → Told
-writeInto codes lent =
-    let answer = writeAnswer codes (length lent) in
-    told answer (writtenAfter answer (bytesOf (elementsOf codes))) (outputAfter answer (bytesOf (elementsOf codes)) lent)
+writeInto codes lent = toldBy (writeAnswer codes (length lent)) (bytesOf (elementsOf codes)) lent
 
 -- "An expression written as tokens reads back as itself": where 0 is returned, so many bytes of the output read to the elements
 abbrev pub ReadsBackTo : List ℕ → ℕ → ℕ → List ℕ → Type 0
@@ -157,7 +153,7 @@ eventTold script kind fields tokens stops place =
 -- Of the drive that a script leaves: "fill their output as the token writer does, 11 included". Before that 10: "Answer 10 carries a place",
 -- which stands where the length would.
 abbrev pub discoveryTold : (former : ℕ) → Script → List ℕ → Told
-discoveryTold former (accepted capacity bands sensors es) lent = leaving former (listOf (discoveryOf (runOf (freshDrive capacity bands sensors) es)) lent)
+discoveryTold former (accepted capacity bands sensors es) lent = leaving former (filledBy (discoveryOf (runOf (freshDrive capacity bands sensors) es)) lent)
 discoveryTold former (bad at) lent = told badScript at lent
 
 -- what is shown of an answer: the answer's number, "whether each of the two is there and the Locking feature's flags"

@@ -4,12 +4,13 @@ ghost use mathlib.Core.Path.{_≡_};
 ghost use Prim.Native.Nat.{ℕ, _≤_};
 ghost use lib.ListN.{length, getD};
 ghost use Rattle.base.specs.Lists.{oneIf};
+ghost use Rattle.base.specs.Spliced.{over};
+ghost use Rattle.output.specs.Filling.{told, filledBy};
 ghost use Rattle.token_reader.specs.Read.{readTokens};
 ghost use Rattle.drive.specs.Events.{eventOf};
 ghost use Rattle.script.specs.Whole.{readScript};
-ghost use Rattle.drive.specs.Events.{over};
 ghost use Rattle.run.specs.Outcome.{runScript};
-ghost use Rattle.report.specs.Listing.{told, listing, listOf};
+ghost use Rattle.report.specs.Listing.{listing};
 ghost use Rattle.api.specs.Exports.{
   leaving,
   ranTo,
@@ -52,7 +53,7 @@ const LAST_KIND: u64 = 7;
 // The listing of a script, from the output's start, and its length.
 #[no_mangle]
 pub extern "C" fn drive_list(script: &[u8], out: &mut [u8], length: &mut usize) -> u8
-    ensures { λ r. ⌜ told r (now (length .exit)) (now (out .exit)) ≡ leaving (now (length .entry)) (listOf (listing (readScript (now (script .entry)))) (now (out .entry))) ⌝ }
+    ensures { λ r. ⌜ told r (now (length .exit)) (now (out .exit)) ≡ leaving (now (length .entry)) (filledBy (listing (readScript (now (script .entry)))) (now (out .entry))) ⌝ }
 {
     let listed = report::list(script, out);
     let answer = listed.answer;
@@ -60,7 +61,7 @@ pub extern "C" fn drive_list(script: &[u8], out: &mut [u8], length: &mut usize) 
     if number != 0 {
         return number;
     }
-    *length = listed.length;
+    *length = listed.count;
     number
 }
 
@@ -105,7 +106,7 @@ fn copy(out: &mut [u64], codes: &[u64])
 
 // Hands numbers over where they fit, and tells how many.
 fn hand(codes: &[u64], out: &mut [u64], count: &mut usize) -> u8
-    ensures { λ r. ⌜ told r (now (count .exit)) (now (out .exit)) ≡ leaving (now (count .entry)) (listOf (now (codes .entry)) (now (out .entry))) ⌝ }
+    ensures { λ r. ⌜ told r (now (count .exit)) (now (out .exit)) ≡ leaving (now (count .entry)) (filledBy (now (codes .entry)) (now (out .entry))) ⌝ }
 {
     let length = codes.len();
     if out.len() < length {

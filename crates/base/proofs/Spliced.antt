@@ -1,12 +1,12 @@
 -- Laws of an output with other bytes from a place on.
 use mathlib.Core.Path.{_≡_}
 use Prim.Native.Nat.{ℕ, _+_, _≤_, _<_}
-use native.Mathlib.Nat.{add-assoc}
+use native.Mathlib.Nat.{add-assoc, zero-add}
 use native.Mathlib.Numerals.{add-one}
 use mathlib.Core.List.{List, [], _∷_, _++_, append-assoc}
 use lib.ListN.{length, take, drop, set, length-append}
 use lib.Seq.{length-take-le, take-at, drop-at, drop-drop, set-split}
-use Rattle.base.specs.Spliced.{spliced}
+use Rattle.base.specs.Spliced.{spliced, over}
 
 head-length : (d : List ℕ) (at : ℕ) (x : List ℕ) → at ≤ length d → length (take at d ++ x) ≡ at + length x
 head-length d at x h = rw (length-append, length-take-le at d h)
@@ -22,3 +22,7 @@ splice-twice d at x y h =
 -- one store
 pub set-splice : (d : List ℕ) (at b : ℕ) → at < length d → set d at b ≡ spliced d at (b ∷ [])
 set-splice d at b h = rw (set-split d at b h, append-assoc (take at d) (b ∷ []) (drop (at + 1) d), add-one)
+
+-- from the start
+pub spliced-over : (d bytes after : List ℕ) → after ≡ spliced d 0 bytes → after ≡ over bytes d
+spliced-over d bytes after e = rw zero-add at e

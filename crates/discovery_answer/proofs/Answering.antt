@@ -5,16 +5,15 @@ use native.Mathlib.Omega.{arith}
 use mathlib.Core.Bool.{Bool, true, false, cond, _||_, false≢true}
 use mathlib.Core.List.{List, [], _∷_, _++_}
 use mathlib.Core.Logic.{_↔_}
-use lib.Dec.{eqb, ltb}
-use lib.ListN.{length, getD, take, drop, replicate, length-take}
+use lib.Dec.{ltb}
+use lib.ListN.{length, getD, take, drop, length-take}
 use lib.Seq.{take-all, getD-take}
 use borrow.Author.Tests.{le-ltb, ltb-true, ltb-false}
 use Rattle.base.specs.Lists.{any}
 use Rattle.base.specs.Columns.{named}
 use Rattle.base.proofs.Cases.{cond-either, or-yes, or-second}
-use Rattle.answer.specs.Numbers.{numberOf}
 use Rattle.output.specs.declared.Written.{Written}
-use Rattle.output.specs.Filling.{Fills}
+use Rattle.output.specs.Filling.{toldIn, filledBy}
 use Rattle.output.proofs.Filled.{filled-bytes}
 use Rattle.band.specs.declared.Row.{Row}
 use Rattle.band.specs.declared.Side.{Side}
@@ -41,15 +40,15 @@ use Rattle.discovery_answer.specs.Read.{
   descriptorsUpTo,
   descriptorsIn,
   firstFlags,
-  featuresOf,
-  listed,
   endIn,
   featuresIn,
   isPast,
   readAnswer,
+  shownBy,
   shownIn,
 }
 use Rattle.discovery_answer.specs.Answers.{SomeSideLocked, FlagsAre, bothWith, ShowsDrive, ReadsBack, numbersWith, DiscoveryAnswers}
+use Rattle.discovery_answer.proofs.Writing.{discovery-length, filled-so}
 use Rattle.discovery_answer.proofs.Walking.{same-arms}
 use Rattle.discovery_answer.proofs.Descriptors.{all-back, only-form}
 
@@ -178,7 +177,7 @@ module _ (s t : List ℕ) (e : take (endIn s) s ≡ take (endIn s) t) where
 
   same-shown : shownIn s ≡ shownIn t
   unfolding shownIn
-  same-shown = ap₂ (λ (n : ℕ) (ds : Descriptors). featuresOf (cond (eqb n 0) (listed ds) [])) same-answer same-features
+  same-shown = ap₂ shownBy same-answer same-features
 
 -- ---- what a drive has written
 
@@ -212,9 +211,12 @@ read-back d rest =
       flags = rw both (flags-are d);
     }
 
--- both promises of the writer
-pub and-back : (d : Drive) (out after : List ℕ) (w : Written) → Fills (discoveryOf d) out w after → Fills (discoveryOf d) out w after × ReadsBack d w after
-and-back d out after w f = (f, λ z. rw (filled-bytes (discoveryOf d) out w after f z .2) (read-back d (drop (length (discoveryOf d)) out)))
+-- the output that the writer has filled
+pub wrote-back : (d : Drive) (flags : ℕ) (bytes out : List ℕ) (w : Written) (after : List ℕ) → flags ≡ flagsOf d
+    → bytes ≡ answerBytes (lockingFeature flags ∷ rangesFeature ∷ []) → toldIn w after ≡ filledBy bytes out → ReadsBack d w after
+wrote-back d flags bytes out w after p q f z =
+    rw (filled-bytes (discoveryOf d) out _ _ after (filled-so d flags bytes out w after p q f) z .2)
+    (read-back d (drop (length (discoveryOf d)) out))
 
 by-number : (d : Drive) → discoveryOf d ≡ numbersWith (flagsOf d)
 unfolding discoveryOf answerBytes featureBytes
@@ -222,10 +224,11 @@ by-number d = refl
 
 pub discovery-answers : DiscoveryAnswers
 discovery-answers = record {
+  length-is = discovery-length;
   by-number = by-number;
   read-back = read-back;
   one-answer = λ d out out' after after' w w' f f' z z'.
-      filled-bytes (discoveryOf d) out w after f z .1 ∙ sym (filled-bytes (discoveryOf d) out' w' after' f' z' .1);
+      filled-bytes (discoveryOf d) out _ _ after f z .1 ∙ sym (filled-bytes (discoveryOf d) out' _ _ after' f' z' .1);
   to-the-end = λ s t e. (same-answer s t e, same-shown s t e);
   descriptors-back = λ fs a. all-back fs (length (featureBytes fs)) a (omega arith);
   one-form = λ s fs b e. only-form (length s) s fs b e;

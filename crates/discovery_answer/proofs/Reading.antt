@@ -8,10 +8,8 @@ use lib.Seq.{length-take-le}
 use borrow.Author.Tests.{lt-ltb, le-ltb}
 use Rattle.base.specs.Lists.{any}
 use Rattle.answer.specs.Numbers.{numberOf}
-use Rattle.answer.specs.declared.Answer.the-variants.{Done}
-use Rattle.discovery_answer.specs.declared.Features.{Features}
 use Rattle.discovery_answer.specs.declared.Shown.{Shown}
-use Rattle.discovery_answer.specs.Format.{Descriptor, headerBytes, lockingCode}
+use Rattle.discovery_answer.specs.Format.{Descriptor, lockingCode}
 use Rattle.discovery_answer.specs.Read.{
   Descriptors,
   whole,

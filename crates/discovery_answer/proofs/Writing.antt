@@ -13,9 +13,9 @@ use Rattle.band.specs.declared.Side.the-variants.{Read, Write}
 use Rattle.band.specs.Rows.{closedOn}
 use Rattle.drive.specs.declared.Drive.{Drive}
 use Rattle.output.specs.declared.Written.{Written}
-use Rattle.output.specs.Filling.{Fills}
+use Rattle.output.specs.Filling.{toldIn, filledBy}
 use Rattle.discovery_answer.specs.Format.{featureBytes, answerBytes, lockingFeature, rangesFeature}
-use Rattle.discovery_answer.specs.Write.{closed, someClosed, flagsOf, discoveryOf}
+use Rattle.discovery_answer.specs.Write.{closed, someClosed, flagsOf, discoveryOf, discoveryBytes}
 
 pub closed-is : (row : Row) (a b r : Bool) → a ≡ closedOn Read row → b ≡ closedOn Write row → r ≡ (a || b) → r ≡ closed row
 closed-is row a b r p q e = rw (e, p, q)
@@ -59,13 +59,12 @@ pub flags-open : (d : Drive) (t : Bool) → t ≡ any closed (take (d .«band_co
 unfolding flagsOf someClosed
 flags-open d t e f = rw (← e, f)
 
--- "80 bytes"
-pub discovery-length : (d : Drive) → length (discoveryOf d) ≡ 80
+pub discovery-length : (d : Drive) → length (discoveryOf d) ≡ discoveryBytes
 unfolding discoveryOf answerBytes featureBytes
 discovery-length d = refl
 
 pub filled-so : (d : Drive) (flags : ℕ) (bytes out : List ℕ) (r : Written) (after : List ℕ) → flags ≡ flagsOf d
-    → bytes ≡ answerBytes (lockingFeature flags ∷ rangesFeature ∷ []) → Fills bytes out r after → Fills (discoveryOf d) out r after
+    → bytes ≡ answerBytes (lockingFeature flags ∷ rangesFeature ∷ []) → toldIn r after ≡ filledBy bytes out → toldIn r after ≡ filledBy (discoveryOf d) out
 unfolding discoveryOf
 filled-so d flags bytes out r after f b h =
     let e : bytes ≡ answerBytes (lockingFeature (flagsOf d) ∷ rangesFeature ∷ []) =

@@ -9,7 +9,7 @@ use Rattle.base.specs.Lists.{Bytes}
 use Rattle.base.specs.Columns.{named}
 use Rattle.answer.specs.Numbers.{numberOf}
 use Rattle.output.specs.declared.Written.{Written}
-use Rattle.output.specs.Filling.{Fills}
+use Rattle.output.specs.Filling.{toldIn, filledBy}
 use Rattle.band.specs.declared.Side.{Side}
 use Rattle.band.specs.Rows.{closedOn}
 use Rattle.drive.specs.declared.Drive.{Drive}
@@ -25,7 +25,7 @@ use Rattle.discovery_answer.specs.Format.{
   mbrEnabled,
   mbrDone,
 }
-use Rattle.discovery_answer.specs.Write.{flagsOf, discoveryOf}
+use Rattle.discovery_answer.specs.Write.{flagsOf, discoveryOf, discoveryBytes}
 use Rattle.discovery_answer.specs.Read.{whole, descriptorsIn, endIn, readAnswer, shownIn}
 
 -- "some band has an enabled locked side"
@@ -78,13 +78,14 @@ AllFit [] = Unit {0}
 AllFit (f ∷ fs) = Fits f × AllFit fs
 
 pub record DiscoveryAnswers : Type 0 where
+  pub length-is : (d : Drive) → length (discoveryOf d) ≡ discoveryBytes
   -- the bytes that the tables make
   pub by-number : (d : Drive) → discoveryOf d ≡ numbersWith (flagsOf d)
   -- reading what was written shows both features and the drive's flags, whatever bytes follow
   pub read-back : (d : Drive) (rest : List ℕ) → ShowsDrive d (readAnswer (discoveryOf d ++ rest)) (shownIn (discoveryOf d ++ rest))
   -- no drive makes two different answers
-  pub one-answer : (d : Drive) (out out' after after' : List ℕ) (w w' : Written) → Fills (discoveryOf d) out w after
-      → Fills (discoveryOf d) out' w' after' → numberOf (w .answer) ≡ 0 → numberOf (w' .answer) ≡ 0
+  pub one-answer : (d : Drive) (out out' after after' : List ℕ) (w w' : Written) → toldIn w after ≡ filledBy (discoveryOf d) out
+      → toldIn w' after' ≡ filledBy (discoveryOf d) out' → numberOf (w .answer) ≡ 0 → numberOf (w' .answer) ≡ 0
       → take (w .count) after ≡ take (w' .count) after'
   -- "Bytes after the end that the header's length field states are not looked at": of bytes that agree up to that end the same is shown
   pub to-the-end : (s t : List ℕ) → take (endIn s) s ≡ take (endIn s) t → (readAnswer s ≡ readAnswer t) × (shownIn s ≡ shownIn t)

@@ -1,5 +1,4 @@
 -- What only serves the contracts of private functions.
-use Prim.Native.Nat.{ℕ}
 use mathlib.Core.Bool.{cond, _||_}
 use mathlib.Core.List.{List, []}
 use Rattle.answer.specs.declared.Answer.the-variants.{Done, ShortAnswer}

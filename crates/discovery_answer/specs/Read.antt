@@ -110,8 +110,11 @@ unfoldable pub readAnswer : List ℕ → ℕ
 readAnswer s = firstOf (readRefusals s)
 
 -- ".. tested before any feature is shown": by the answer's number, what the descriptors show, or what none show
+abbrev pub shownBy : ℕ → Descriptors → Features
+shownBy answer ds = featuresOf (cond (eqb answer 0) (listed ds) [])
+
 unfoldable pub shownIn : List ℕ → Features
-shownIn s = featuresOf (cond (eqb (readAnswer s) 0) (listed (featuresIn s)) [])
+shownIn s = shownBy (readAnswer s) (featuresIn s)
 
 -- what the reader does with bytes
 pub record Shows (s : List ℕ) (r : Shown) : Type 0 where

@@ -25,3 +25,7 @@ flagsOf d = lockingSupported + mediaEncryption + cond (someClosed d) locked 0
 
 unfoldable pub discoveryOf : Drive → List ℕ
 discoveryOf d = answerBytes (lockingFeature (flagsOf d) ∷ rangesFeature ∷ [])
+
+-- its bytes, whatever the drive (`DiscoveryAnswers.length-is`): the header's 48, and twice 4 and 12
+abbrev pub discoveryBytes : ℕ
+discoveryBytes = 80

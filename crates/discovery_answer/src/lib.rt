@@ -5,7 +5,7 @@ ghost use Prim.Native.Nat.{_+_, _*_, _<_, _≤_};
 ghost use lib.ListN.{length, take, drop};
 ghost use Rattle.base.specs.Lists.{any};
 ghost use Rattle.answer.specs.declared.Answer.the-variants.{ShortAnswer};
-ghost use Rattle.output.specs.Filling.{Fills};
+ghost use Rattle.output.specs.Filling.{toldIn, filledBy};
 ghost use Rattle.discovery_answer.specs.Format.{
   Descriptor,
   descriptorHead,
@@ -125,7 +125,7 @@ fn bytes_of(flags: u8) -> [u8; BYTES]
 
 // Writes the discovery answer of a drive from the output's start. Where it does not fit the output is left as it was.
 pub fn write(drive: Drive, out: &mut [u8]) -> Written
-    ensures { λ r. ⌜ Fills (discoveryOf drive) (now (out .entry)) r (now (out .exit)) ⌝ }
+    ensures { λ r. ⌜ toldIn r (now (out .exit)) ≡ filledBy (discoveryOf drive) (now (out .entry)) ⌝ }
     ensures back { λ r. ⌜ ReadsBack drive r (now (out .exit)) ⌝ }
 {
     let flags = flags_of(drive);

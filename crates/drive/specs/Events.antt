@@ -2,9 +2,9 @@
 use Prim.Native.Nat.{ℕ}
 use mathlib.Core.Path.{_≡_}
 use mathlib.Core.Bool.{Bool, not, cond, _||_}
-use mathlib.Core.List.{List, [], _∷_, _++_, map}
+use mathlib.Core.List.{List, [], _∷_, map}
 use lib.Dec.{eqb, ltb}
-use lib.ListN.{length, drop}
+use lib.ListN.{length}
 use Rattle.base.specs.Ticks.{mostTicks, ticks, stops}
 use Rattle.base.specs.Columns.{named}
 use Rattle.base.specs.Refusals.{Refusal, when, firstOf, LowestOf}
@@ -205,7 +205,3 @@ answersOf d es = along answerOf d es
 -- and its stops, 0 for all but an elapse
 abbrev pub stopsIn : Drive → List Event → List ℕ
 stopsIn d es = along stopsOf d es
-
--- bytes from the start of a lent buffer, and the rest of it untouched
-abbrev pub over : List ℕ → List ℕ → List ℕ
-over bytes lent = bytes ++ drop (length bytes) lent

@@ -7,6 +7,7 @@ use mathlib.Core.List.{List, [], _∷_, _++_, append-nil, map}
 use lib.ListN.{length, set, length-set, length-append, length-map}
 use borrow.Author.Tests.{le-leb, lt-leb}
 use Rattle.base.specs.Lists.{any}
+use Rattle.base.specs.Spliced.{over}
 use Rattle.sensor.specs.Single.{runs}
 use Rattle.band.specs.Rows.{resetRow}
 use Rattle.band.specs.Parts.{isLockable}
@@ -14,7 +15,7 @@ use Rattle.drive.specs.declared.Drive.{Drive}
 use Rattle.drive.specs.declared.Fresh.{Fresh}
 use Rattle.drive.specs.declared.Kind.{Kind}
 use Rattle.drive.specs.State.{Freshens, freshOf, settleOf}
-use Rattle.drive.specs.Events.{Event, eventOf, answerOf, stopsOf, stepOf, runOf, along, answersOf, stopsIn, over}
+use Rattle.drive.specs.Events.{Event, eventOf, answerOf, stopsOf, stepOf, runOf, along, answersOf, stopsIn}
 use Rattle.elapse.specs.declared.Elapsed.{Elapsed}
 use Rattle.elapse.specs.Jumps.{Elapses}
 use Rattle.event_reader.specs.declared.EventRead.{EventRead}

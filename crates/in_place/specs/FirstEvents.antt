@@ -4,8 +4,9 @@ use mathlib.Core.Bool.{cond, _&&_}
 use mathlib.Core.List.{List, [], _∷_}
 use lib.Dec.{leb}
 use lib.ListN.{length}
+use Rattle.base.specs.Spliced.{over}
 use Rattle.drive.specs.declared.Drive.{Drive}
-use Rattle.drive.specs.Events.{Event, runOf, answersOf, stopsIn, over}
+use Rattle.drive.specs.Events.{Event, runOf, answersOf, stopsIn}
 use Rattle.event_reader.specs.Fields.{Parsed, event, broken, eventAt}
 
 -- an event that reads, and those that follow it; none where it does not read

@@ -1,20 +1,17 @@
 -- What the functions come to, and what their promises say to those who call them.
 use mathlib.Core.Path.{_≡_, refl, sym, ap, _∙_}
 use Prim.Native.Nat.{ℕ, _+_, _-_, _<_, _≤_}
-use native.Mathlib.Nat.{zero-add}
 use native.Mathlib.Omega.{arith}
+use mathlib.Core.Bool.{Bool, true, false, cond}
 use mathlib.Core.List.{List, _++_}
+use lib.Dec.{ltb}
 use lib.ListN.{length, take, drop}
 use lib.Seq.{take-append-seam}
 use borrow.Author.Tests.{lt-ltb, le-ltb, le-leb, lt-leb}
-use Rattle.base.specs.Spliced.{spliced}
+use Rattle.base.specs.Spliced.{spliced, over}
 use Rattle.base.proofs.Cases.{cond-true, cond-false}
 use Rattle.base.proofs.Spliced.{splice-twice}
-use Rattle.answer.specs.declared.Answer.{Answer}
-use Rattle.answer.specs.declared.Answer.the-variants.{Done, ShortBuffer}
-use Rattle.answer.specs.Numbers.{numberOf}
-use Rattle.output.specs.declared.Written.{Written}
-use Rattle.output.specs.Filling.{splicedWithin, outputAfter, writtenAfter, fillAnswer, Fills}
+use Rattle.output.specs.Filling.{outputAfter, writtenAfter, told, toldBy, fillAnswer, filledBy, splicedWithin}
 
 -- bytes put where they fit
 
@@ -46,36 +43,40 @@ put-twice out at x y next last room k e f =
     let b : last ≡ spliced next (at + length x) y = put-fits next (at + length x) y last (omega arith) f in
     rw (b, a) (splice-twice out at x y (omega arith))
 
--- an output filled
+-- an output filled, or too short
 
 module _ (bytes out : List ℕ) where
-  -- by the answer's number
-  fills : (a : Answer) (after : List ℕ) → numberOf a ≡ fillAnswer bytes (length out) → after ≡ outputAfter (numberOf a) bytes out
-      → Fills bytes out (record { answer = a; count = writtenAfter (numberOf a) bytes }) after
-  fills a after z e = record {
-    answer = z;
-    count = ap (λ (k : ℕ). writtenAfter k bytes) z;
-    output = e ∙ ap (λ (k : ℕ). outputAfter k bytes out) z;
-  }
-
-  pub fill-short : length out < length bytes → Fills bytes out (record { answer = ShortBuffer; count = 0 }) out
+  -- by whether it is
+  by-room : (b : Bool) → ltb (length out) (length bytes) ≡ b → toldBy (cond b 11 0) bytes out ≡ filledBy bytes out
   unfolding fillAnswer
-  fill-short h = fills ShortBuffer out (cond-true _ 11 0 11 (lt-ltb (length out) (length bytes) h) refl) refl
+  by-room b e = ap (λ (c : Bool). toldBy (cond c 11 0) bytes out) (sym e)
 
-  pub fill-done : (after : List ℕ) → length bytes ≤ length out → after ≡ spliced out 0 bytes
-      → Fills bytes out (record { answer = Done; count = length bytes }) after
-  unfolding fillAnswer
-  fill-done after h e = fills Done after (cond-false _ 11 0 0 (le-ltb (length out) (length bytes) h) refl) e
+  pub filled-short : length out < length bytes → told 11 0 out ≡ filledBy bytes out
+  filled-short h = by-room true (lt-ltb (length out) (length bytes) h)
+
+  pub filled-whole : (after : List ℕ) → length bytes ≤ length out → after ≡ over bytes out → told 0 (length bytes) after ≡ filledBy bytes out
+  filled-whole after h e = ap (told 0 (length bytes)) e ∙ by-room false (le-ltb (length out) (length bytes) h)
 
 -- where the answer is 0, the bytes stand at the output's start and the rest is as it was
 
 pub written-bytes : (answer count : ℕ) (bytes out after : List ℕ) → answer ≡ 0 → count ≡ writtenAfter answer bytes → after ≡ outputAfter answer bytes out
-    → (count ≡ length bytes) × (take count after ≡ bytes) × (after ≡ bytes ++ drop (length bytes) out)
+    → (count ≡ length bytes) × (take count after ≡ bytes) × (after ≡ over bytes out)
 written-bytes answer count bytes out after e p q =
     let c : count ≡ length bytes = rw e at p in
-    let o : after ≡ bytes ++ drop (length bytes) out = rw (e, zero-add) at q in
+    let o : after ≡ over bytes out = rw e at q in
     (c, rw (c, o) (take-append-seam bytes (drop (length bytes) out)), o)
 
-pub filled-bytes : (bytes out : List ℕ) (r : Written) (after : List ℕ) → Fills bytes out r after → numberOf (r .answer) ≡ 0
-    → (r .count ≡ length bytes) × (take (r .count) after ≡ bytes) × (after ≡ bytes ++ drop (length bytes) out)
-filled-bytes bytes out r after f z = written-bytes _ _ bytes out after (sym (f .answer) ∙ z) (f .count) (f .output)
+module _ (bytes out : List ℕ) (answer count : ℕ) (after : List ℕ) (f : told answer count after ≡ filledBy bytes out) where
+  pub filled-bytes : answer ≡ 0 → (count ≡ length bytes) × (take count after ≡ bytes) × (after ≡ over bytes out)
+  filled-bytes z =
+      let a : answer ≡ fillAnswer bytes (length out) = cc in
+      let c : count ≡ writtenAfter (fillAnswer bytes (length out)) bytes = cc in
+      let o : after ≡ outputAfter (fillAnswer bytes (length out)) bytes out = cc in
+      written-bytes _ _ bytes out after (sym a ∙ z) c o
+
+  -- as it is where there is room
+  pub filled-room : length bytes ≤ length out → answer ≡ 0
+  filled-room h =
+      let e : told answer count after ≡ told 0 (length bytes) (over bytes out) =
+      f ∙ sym (filled-whole bytes out (over bytes out) h refl) in
+      cc

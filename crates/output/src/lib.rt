@@ -3,7 +3,7 @@ ghost use mathlib.Core.Path.{_≡_};
 ghost use Prim.Native.Nat.{_+_, _≤_};
 ghost use lib.ListN.{length};
 ghost use Rattle.base.specs.Spliced.{spliced};
-ghost use Rattle.output.specs.Filling.{splicedWithin, Fills};
+ghost use Rattle.output.specs.Filling.{toldIn, filledBy, splicedWithin};
 use answer::Answer;
 
 // What writing gives: the bytes written, 0 where it is refused.
@@ -39,7 +39,7 @@ pub fn put(out: &mut [u8], at: usize, bytes: &[u8])
 
 // Writes bytes from the output's start. An output that is too short is left as it was.
 pub fn fill(bytes: &[u8], out: &mut [u8]) -> Written
-    ensures { λ r. ⌜ Fills (now (bytes .entry)) (now (out .entry)) r (now (out .exit)) ⌝ }
+    ensures { λ r. ⌜ toldIn r (now (out .exit)) ≡ filledBy (now (bytes .entry)) (now (out .entry)) ⌝ }
 {
     let count = bytes.len();
     if out.len() < count {

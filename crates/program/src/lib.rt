@@ -7,6 +7,7 @@ ghost use mathlib.Core.Bool.{true, false};
 ghost use lib.Dec.{eqb};
 ghost use lib.ListN.{length, take};
 ghost use Rattle.io.specs.Counts.{Counts, clamped};
+ghost use Rattle.discovery_answer.specs.Write.{discoveryBytes};
 ghost use Rattle.report.specs.Listing.{listing, mostListed};
 ghost use Rattle.program.specs.Input.{mostRead, isFailure, discoveryAfter, Tells, Prints, EndsSo};
 
@@ -101,7 +102,7 @@ fn list(input: &[u8], page: &mut [u8]) -> usize
     ensures { λ r. ⌜ Tells listing (now (input .entry)) (take r (now (page .exit))) ⌝ }
 {
     let listed = report::list(input, page);
-    listed.length
+    listed.count
 }
 
 // Space for an input.
@@ -171,7 +172,7 @@ fn complain_of(place: usize) {
 
 // Writes the discovery answer of the drive that an input leaves on a page, and answers how long it is; 0 where the script is bad.
 fn discover_on(input: &[u8], page: &mut [u8]) -> usize
-    requires { ⌜ 80 ≤ length (now page) ⌝ }
+    requires { ⌜ discoveryBytes ≤ length (now page) ⌝ }
     ensures { λ r. ⌜ Tells discoveryAfter (now (input .entry)) (take r (now (page .exit))) ⌝ }
 {
     let left = run::left(input);
@@ -187,7 +188,7 @@ fn discover_on(input: &[u8], page: &mut [u8]) -> usize
 
 // Prints the discovery answer by way of a page that it fits, and answers how many bytes were handed over.
 fn discover_by(page: &mut [u8], input: &[u8]) -> usize
-    requires { ⌜ 80 ≤ length (now page) ⌝ }
+    requires { ⌜ discoveryBytes ≤ length (now page) ⌝ }
     ensures { λ r. ⌜ Prints discoveryAfter (now (input .entry)) r ⌝ }
 {
     let length = discover_on(input, page);

@@ -2,13 +2,16 @@
 use mathlib.Core.Path.{_≡_, refl, sym, ap, _∙_, subst}
 use Prim.Native.Nat.{ℕ, zero, suc, _+_, _≤_, _<_}
 use native.Mathlib.Omega.{arith}
-use mathlib.Core.Bool.{Bool, cond}
 use mathlib.Core.List.{List, [], _∷_, _++_}
 use lib.ListN.{length, getD, drop, length-append}
-use borrow.Author.Tests.{le-leb}
+use Rattle.base.specs.Spliced.{over}
+use Rattle.base.proofs.Spliced.{spliced-over}
 use Rattle.answer.specs.Numbers.{numberOf}
+use Rattle.output.specs.declared.Written.{Written}
+use Rattle.output.specs.Filling.{told, toldIn, filledBy}
+use Rattle.output.proofs.Filled.{filled-whole, filled-room}
 use Rattle.drive.specs.State.{freshDrive}
-use Rattle.drive.specs.Events.{Event, answerOf, stopsOf, runOf, answersOf, stopsIn, over}
+use Rattle.drive.specs.Events.{Event, answerOf, stopsOf, runOf, answersOf, stopsIn}
 use Rattle.drive.proofs.Keeping.{run-header, along-length}
 use Rattle.script.specs.Whole.{mostScriptBytes, mostEvents, Script, accepted, bad, readScript}
 use Rattle.run.specs.declared.Ran.{Ran}
@@ -16,12 +19,10 @@ use Rattle.run.specs.Outcome.{RunOutcome, outcome, outcomeIn, runScript}
 use Rattle.reached.proofs.Reaching.{fresh-reached}
 use Rattle.run.proofs.Whole.{accepted-is}
 use Rattle.run.proofs.Leaving.{whole}
-use Rattle.report.specs.declared.Listed.{Listed}
 use Rattle.report.specs.Lines.{lines, eventLines, driveLines}
-use Rattle.report.specs.Listing.{mostListed, listing, Told, told, toldIn, listOf}
+use Rattle.report.specs.Listing.{mostListed, listing}
 use Rattle.report.specs.Parts.{Puts, Room, runLines, Sized}
 use Rattle.report.proofs.Short.{never-short}
-use Rattle.report.proofs.Handing.{handed, put-over}
 
 lines-same : (f g : ℕ → List ℕ) (n : ℕ) → ((i : ℕ) → i < n → f i ≡ g i) → lines f n ≡ lines g n
 unfolding lines
@@ -98,22 +99,17 @@ module _ (s answers stops : List ℕ) (long : mostEvents ≤ length answers) (wi
     pub ran-room : (out : List ℕ) → mostListed ≤ length out → Room (runLines (outcomeIn r answers' stops')) 0 out
     ran-room out enough = omega (arith, enough, ran-short)
 
-    pub ran-listed : (lent after : List ℕ) (t : Listed) → toldIn t after ≡ listOf (runLines (outcomeIn r answers' stops')) lent → toldIn t after ≡ listOf (listing (readScript s)) lent
-    ran-listed lent after t h = h ∙ ap (λ (bytes : List ℕ). listOf bytes lent) ran-lines
+    pub ran-listed : (lent after : List ℕ) (t : Written) → toldIn t after ≡ filledBy (runLines (outcomeIn r answers' stops')) lent → toldIn t after ≡ filledBy (listing (readScript s)) lent
+    ran-listed lent after t h = h ∙ ap (λ (bytes : List ℕ). filledBy bytes lent) ran-lines
 
     -- written straight into an output that is long enough
     pub straight-listed : (out after : List ℕ) (n : ℕ) → mostListed ≤ length out → Puts (runLines (outcomeIn r answers' stops')) out 0 n after
-        → told 0 n after ≡ listOf (listing (readScript s)) out
+        → told 0 n after ≡ filledBy (listing (readScript s)) out
     straight-listed out after n enough p =
         let b : List ℕ = runLines (outcomeIn r answers' stops') in
         let k : n ≡ length b = omega (arith, p .place) in
-        ap (λ (m : ℕ). told 0 m after) k ∙ handed b out after (omega (arith, ran-room out enough)) (put-over b out after (p .output)) ∙ ap (λ (bytes : List ℕ). listOf bytes out) ran-lines
-
-abbrev answerIn : Told → ℕ
-answerIn (told answer n output) = answer
+        ap (λ (m : ℕ). told 0 m after) k ∙ filled-whole b out after (omega (arith, ran-room out enough)) (spliced-over out b after (p .output)) ∙ ap (λ (bytes : List ℕ). filledBy bytes out) ran-lines
 
 -- an output of 426,486 bytes is never too short
-pub long-enough : (s lent after : List ℕ) (t : Listed) → toldIn t after ≡ listOf (listing (readScript s)) lent → mostListed ≤ length lent → numberOf (t .answer) ≡ 0
-long-enough s lent after t h k =
-    ap answerIn h ∙ ap (λ (b : Bool). answerIn (cond b (told 0 (length (listing (readScript s))) (over (listing (readScript s)) lent)) (told 11 0 lent)))
-    (le-leb (length (listing (readScript s))) (length lent) (omega (arith, k, never-short s)))
+pub long-enough : (s lent after : List ℕ) (t : Written) → toldIn t after ≡ filledBy (listing (readScript s)) lent → mostListed ≤ length lent → numberOf (t .answer) ≡ 0
+long-enough s lent after t h k = filled-room (listing (readScript s)) lent _ _ after h (omega (arith, k, never-short s))

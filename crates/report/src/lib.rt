@@ -5,18 +5,14 @@ ghost use mathlib.Core.Path.{_≡_};
 ghost use Prim.Native.Nat.{_≤_};
 ghost use lib.ListN.{length, take};
 ghost use Rattle.answer.specs.Numbers.{numberOf};
+ghost use Rattle.output.specs.Filling.{toldIn, filledBy};
 ghost use Rattle.script.specs.Whole.{mostEvents, readScript};
 ghost use Rattle.run.specs.Outcome.{outcomeIn};
-ghost use Rattle.report.specs.Listing.{listing, mostListed, toldIn, listOf};
+ghost use Rattle.report.specs.Listing.{listing, mostListed};
 ghost use Rattle.report.specs.Parts.{Puts, Room, runLines, Sized};
 use answer::Answer;
+use output::Written;
 use run::Ran;
-
-// What listing a script hands back: the bytes written, 0 where the output is too short.
-pub struct Listed {
-    pub answer: Answer,
-    pub length: usize,
-}
 
 // An output of so many bytes is never too short: 32,766 lines of events at most, 16 of bands and 16 of sensors.
 pub const MOST: usize = 426_486;
@@ -36,58 +32,40 @@ fn put_run(out: &mut [u8], ran: Ran, answers: &[u8], stops: &[u8]) -> usize
     lines::put_drive(out, at, drive)
 }
 
-// Hands bytes over where they fit.
-fn hand(bytes: &[u8], out: &mut [u8]) -> Listed
-    ensures { λ r. ⌜ toldIn r (now (out .exit)) ≡ listOf (now (bytes .entry)) (now (out .entry)) ⌝ }
-{
-    let length = bytes.len();
-    if out.len() < length {
-        return Listed {
-            answer: Answer::ShortBuffer,
-            length: 0,
-        };
-    }
-    bytes::copy(bytes, out);
-    Listed {
-        answer: Answer::Done,
-        length,
-    }
-}
-
 // A page for every listing. Nothing is ensured of its bytes, so that no proof has to look at them.
 fn blank() -> [u8; MOST] {
     [0; MOST]
 }
 
 // Writes the listing of a run on a page of its own, which costs an instruction for each of its bytes, and hands it over where it fits.
-fn put_by_page(out: &mut [u8], ran: Ran, answers: &[u8], stops: &[u8]) -> Listed
+fn put_by_page(out: &mut [u8], ran: Ran, answers: &[u8], stops: &[u8]) -> Written
     requires { ⌜ (length (runLines (outcomeIn ran (now answers) (now stops))) ≤ mostListed) × Sized (ran .count) (ran .drive) (now answers) (now stops) ⌝ }
-    ensures { λ r. ⌜ toldIn r (now (out .exit)) ≡ listOf (runLines (outcomeIn ran (now (answers .entry)) (now (stops .entry)))) (now (out .entry)) ⌝ }
+    ensures { λ r. ⌜ toldIn r (now (out .exit)) ≡ filledBy (runLines (outcomeIn ran (now (answers .entry)) (now (stops .entry)))) (now (out .entry)) ⌝ }
 {
     let mut page = blank();
     let length = put_run(&mut page, ran, answers, stops);
-    hand(&page[..length], out)
+    output::fill(&page[..length], out)
 }
 
 // Lists a script by way of lent memory: a byte for each event in two buffers. An output that is long enough for every listing is written straight.
-fn list_by(script: &[u8], out: &mut [u8], answers: &mut [u8], stops: &mut [u8]) -> Listed
+fn list_by(script: &[u8], out: &mut [u8], answers: &mut [u8], stops: &mut [u8]) -> Written
     requires { ⌜ (mostEvents ≤ length (now answers)) × (mostEvents ≤ length (now stops)) ⌝ }
-    ensures { λ r. ⌜ toldIn r (now (out .exit)) ≡ listOf (listing (readScript (now (script .entry)))) (now (out .entry)) ⌝ }
+    ensures { λ r. ⌜ toldIn r (now (out .exit)) ≡ filledBy (listing (readScript (now (script .entry)))) (now (out .entry)) ⌝ }
 {
     let ran = run::run(script, run::WHOLE, answers, stops);
     if MOST <= out.len() {
-        let length = put_run(out, ran, answers, stops);
-        return Listed {
+        let count = put_run(out, ran, answers, stops);
+        return Written {
             answer: Answer::Done,
-            length,
+            count,
         };
     }
     put_by_page(out, ran, answers, stops)
 }
 
 // Lists a script: document 01's listing into the lent output, from its start. A refusal leaves the output as it was.
-pub fn list(script: &[u8], out: &mut [u8]) -> Listed
-    ensures { λ r. ⌜ toldIn r (now (out .exit)) ≡ listOf (listing (readScript (now (script .entry)))) (now (out .entry)) ⌝ }
+pub fn list(script: &[u8], out: &mut [u8]) -> Written
+    ensures { λ r. ⌜ toldIn r (now (out .exit)) ≡ filledBy (listing (readScript (now (script .entry)))) (now (out .entry)) ⌝ }
     ensures enough { λ r. ⌜ (mostListed ≤ length (now (out .entry)) → numberOf (r .answer) ≡ 0) ⌝ }
 {
     let mut answers = [0; run::MOST_EVENTS];

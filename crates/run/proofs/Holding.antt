@@ -8,11 +8,12 @@ use mathlib.Core.List.{List, [], _∷_, _++_}
 use lib.Dec.{leb}
 use lib.ListN.{length}
 use lib.Seq.{take-all}
+use Rattle.base.specs.Spliced.{over}
 use Rattle.answer.specs.Numbers.{numberOf}
 use Rattle.band.specs.Rows.{lockedOn}
 use Rattle.drive.specs.declared.Drive.{Drive}
 use Rattle.drive.specs.State.{freshDrive, rowAt, valueAt}
-use Rattle.drive.specs.Events.{Event, answerOf, stepOf, runOf, along, answersOf, stopsIn, over}
+use Rattle.drive.specs.Events.{Event, answerOf, stepOf, runOf, along, answersOf, stopsIn}
 use Rattle.condition.specs.History.{ownSet, moments, LockedByHistory}
 use Rattle.condition.specs.Compared.{answersTo}
 use Rattle.condition.proofs.Condition.{condition-3}

@@ -6,8 +6,9 @@ use mathlib.Core.List.{List}
 use lib.ListN.{length}
 use lib.Seq.{take-all}
 use borrow.Author.Tests.{le-leb}
+use Rattle.base.specs.Spliced.{over}
 use Rattle.drive.specs.State.{freshDrive}
-use Rattle.drive.specs.Events.{Event, runOf, answersOf, stopsIn, over}
+use Rattle.drive.specs.Events.{Event, runOf, answersOf, stopsIn}
 use Rattle.script.specs.Whole.{mostScriptBytes, mostEvents, Script, accepted, bad, readScript}
 use Rattle.script.proofs.Few.{few-events}
 use Rattle.run.specs.declared.Ran.{Ran}

@@ -8,13 +8,14 @@ use lib.Dec.{leb, ltb}
 use lib.ListN.{length, take}
 use lib.Seq.{length-take-le, take-all}
 use borrow.Author.Tests.{lt-ltb, le-ltb, le-leb, lt-leb, ltb-true, ltb-false}
+use Rattle.base.specs.Spliced.{over}
 use Rattle.answer.specs.declared.Answer.{Answer}
 use Rattle.answer.specs.declared.Answer.the-variants.{Done, BadScript, ShortBuffer}
 use Rattle.answer.specs.Numbers.{numberOf}
 use Rattle.drive.specs.declared.Drive.{Drive}
 use Rattle.drive.specs.declared.Fresh.{Fresh}
 use Rattle.drive.specs.State.{headerFits, freshDrive, freshOf, Freshens}
-use Rattle.drive.specs.Events.{Event, runOf, answersOf, stopsIn, over}
+use Rattle.drive.specs.Events.{Event, runOf, answersOf, stopsIn}
 use Rattle.numbers.specs.Groups.{done, badScript, Found, found, none, numberAt}
 use Rattle.script.specs.declared.HeaderRead.{HeaderRead}
 use Rattle.script.specs.declared.HeaderRead.the-variants as H

@@ -4,10 +4,11 @@ use mathlib.Core.Bool.{cond, _&&_}
 use mathlib.Core.List.{List}
 use lib.Dec.{leb}
 use lib.ListN.{length, take}
+use Rattle.base.specs.Spliced.{over}
 use Rattle.answer.specs.Numbers.{numberOf}
 use Rattle.drive.specs.declared.Drive.{Drive}
 use Rattle.drive.specs.State.{freshDrive}
-use Rattle.drive.specs.Events.{Event, runOf, answersOf, stopsIn, over}
+use Rattle.drive.specs.Events.{Event, runOf, answersOf, stopsIn}
 use Rattle.numbers.specs.Groups.{badScript}
 use Rattle.script.specs.Whole.{Script, accepted, bad}
 use Rattle.run.specs.declared.Ran.{Ran}

@@ -12,6 +12,7 @@ use mir.Val.{Fits}
 use borrow.Author.Tests.{lt-ltb, le-ltb, not-true, not-false}
 use Rattle.base.specs.Spliced.{spliced}
 use Rattle.base.proofs.Cases.{cond-true, cond-false, behind, absent}
+use Rattle.base.proofs.Spliced.{spliced-over}
 use Rattle.answer.specs.declared.Answer.{Answer}
 use Rattle.answer.specs.declared.Answer.the-variants.{Done, OutOfRange, TooLong, ShortBuffer}
 use Rattle.answer.specs.Numbers.{numberOf}
@@ -114,7 +115,7 @@ module _ (codes out : List ℕ) (t : Bool) (p : t ≡ codesFit codes) where
           record {
             answer = z;
             count = q ∙ sym (needed-is (elementsOf codes)) ∙ ap (λ (k : ℕ). writtenAfter k (bytesOf (elementsOf codes))) z;
-            output = w ∙ ap (λ (k : ℕ). outputAfter k (bytesOf (elementsOf codes)) out) z;
+            output = spliced-over out (bytesOf (elementsOf codes)) after w ∙ ap (λ (k : ℕ). outputAfter k (bytesOf (elementsOf codes)) out) z;
           }
 
 -- an expression: the numbers of its first elements, or of all 32

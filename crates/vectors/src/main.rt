@@ -23,7 +23,7 @@ fn case(number: usize, script: &[u8]) {
     let mut page = [0; report::MOST];
     let listed = report::list(script, &mut page);
     title(number);
-    let text = report::first(&page, listed.length);
+    let text = report::first(&page, listed.count);
     io::write_all(1, text);
 }
 

@@ -6,7 +6,7 @@ use mathlib.Core.List.{List, [], _∷_, _++_}
 use lib.ListN.{length, take, drop, getD, set, length-set}
 use lib.Seq.{take-length}
 use borrow.Author.Needs.{needs}
-use Rattle.drive.specs.Events.{over}
+use Rattle.base.specs.Spliced.{over}
 use Rattle.api.proofs.copy.Statement.{statement}
 use Rattle.api.proofs.copy.Tie as tie
 

@@ -1,5 +1,4 @@
 use Rattle.discovery_answer.proofs.Walking.{none-shown}
-use borrow.Author.Needs.{needs}
 use Rattle.discovery_answer.proofs.no_features.Statement.{statement}
 use Rattle.discovery_answer.proofs.no_features.Tie as tie
 

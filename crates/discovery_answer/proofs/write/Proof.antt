@@ -1,5 +1,5 @@
 use Rattle.discovery_answer.proofs.Writing.{filled-so}
-use Rattle.discovery_answer.proofs.Answering.{and-back}
+use Rattle.discovery_answer.proofs.Answering.{wrote-back}
 use borrow.Author.Needs.{needs}
 use Rattle.discovery_answer.proofs.write.Statement.{statement}
 use Rattle.discovery_answer.proofs.write.Tie as tie
@@ -20,7 +20,7 @@ same-length : tie.Need-same-length
 same-length c = search needs
 
 returns : tie.Need-returns
-returns c = and-back _ _ _ _ (search filled-so)
+returns c = (search filled-so, search wrote-back)
 
 pub write-spec : {M : Type 1} → statement M
 write-spec =

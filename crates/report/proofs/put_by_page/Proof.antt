@@ -16,11 +16,11 @@ put-run-requires c κs = (search (page-room, needs), search needs)
 array-share-prefix-page : tie.Need-array-share-prefix-page
 array-share-prefix-page c = search (page-holds, needs)
 
-slice-aggregate-hand : tie.Need-slice-aggregate-hand
-slice-aggregate-hand c = search (length-take-le, page-holds, needs)
+slice-aggregate-fill : tie.Need-slice-aggregate-fill
+slice-aggregate-fill c = search (length-take-le, page-holds, needs)
 
-hand-requires : tie.Need-hand-requires
-hand-requires c κs = search needs
+fill-requires : tie.Need-fill-requires
+fill-requires c κs = search needs
 
 same-length : tie.Need-same-length
 same-length c = search needs
@@ -36,7 +36,7 @@ put-by-page-spec =
     slice-aggregate-put-run
     put-run-requires
     array-share-prefix-page
-    slice-aggregate-hand
-    hand-requires
+    slice-aggregate-fill
+    fill-requires
     same-length
     returns)
