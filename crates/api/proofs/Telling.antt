@@ -1,5 +1,5 @@
 -- What the called functions ensure, said of the numbers that are handed over.
-use mathlib.Core.Path.{_≡_, refl, sym, ap, _∙_}
+use mathlib.Core.Path.{_≡_, refl, sym, ap, subst, _∙_}
 use mathlib.Core.Logic.{_≢_}
 use Prim.Native.Nat.{ℕ, _-_, _<_, _≤_}
 use native.Mathlib.Omega.{arith}
@@ -40,7 +40,8 @@ use Rattle.run.specs.Left.{leaves, leftIn, leftBy}
 use Rattle.discovery_answer.specs.declared.Features.{Features}
 use Rattle.discovery_answer.specs.declared.Shown.{Shown}
 use Rattle.discovery_answer.specs.Write.{discoveryOf}
-use Rattle.discovery_answer.specs.Read.{readAnswer, Shows}
+use Rattle.discovery_answer.specs.Read.{readAnswer, shownIn, Shows}
+use Rattle.discovery_answer.specs.Answers.{ShowsDrive}
 use Rattle.api.specs.Exports.{
   written,
   leaving,
@@ -64,6 +65,7 @@ use Rattle.api.specs.Exports.{
   lastKind,
   eventTold,
   discoveryTold,
+  ShowsLeft,
   ShownTold,
   shownTo,
   shownTold,
@@ -386,6 +388,16 @@ module _ (script : Script) (r : LeftDrive) (left : leftIn r ≡ leftBy script) (
 
     pub discovery-told : answer ≡ 0 → told answer (w .count) after ≡ discoveryTold former script lent
     discovery-told q = fill-told former w after (filledBy (discoveryOf (r .drive)) lent) answer k f q ∙ discovered
+
+    pub left-shown : (numberOf (w .answer) ≡ 0 → ShowsDrive (r .drive) (readAnswer after) (shownIn after)) → ShowsLeft script answer after
+    left-shown b capacity bands sensors es q a =
+        let o : leftIn r ≡ leftBy (accepted capacity bands sensors es) = left ∙ ap leftBy q in
+        let d : r .drive ≡ runOf (freshDrive capacity bands sensors) es = cc in
+        subst (λ (x : Drive). ShowsDrive x (readAnswer after) (shownIn after)) d (b (sym k ∙ a))
+
+-- nothing is said of a refusal
+pub none-shown : (script : Script) (answer : ℕ) (after : List ℕ) → answer ≢ 0 → ShowsLeft script answer after
+none-shown script answer after z capacity bands sensors es q a = absurd (z a)
 
 -- what is shown of an answer
 module _ (bytes : List ℕ) (r : Shown) (h : Shows bytes r) (answer : ℕ) (e : answer ≡ numberOf (r .answer)) (was was' was'' : ℕ) where

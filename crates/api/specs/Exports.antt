@@ -21,6 +21,7 @@ use Rattle.drive.specs.State.{mostBlocks, mostBands, mostSensors, headerFits, f
 use Rattle.drive.specs.Events.{Event, refusals, answerOf, stopsOf, eventOf, runOf}
 use Rattle.discovery_answer.specs.Write.{discoveryOf}
 use Rattle.discovery_answer.specs.Read.{readAnswer, shownIn}
+use Rattle.discovery_answer.specs.Answers.{ShowsDrive}
 use Rattle.numbers.specs.Groups.{badScript}
 use Rattle.event_reader.specs.Fields.{kinds}
 use Rattle.script.specs.Whole.{Script, accepted, bad}
@@ -155,6 +156,12 @@ eventTold script kind fields tokens stops place =
 abbrev pub discoveryTold : (former : ℕ) → Script → List ℕ → Told
 discoveryTold former (accepted capacity bands sensors es) lent = leaving former (filledBy (discoveryOf (runOf (freshDrive capacity bands sensors) es)) lent)
 discoveryTold former (bad at) lent = told badScript at lent
+
+-- What a host tool is shown of it: where 0 is returned, the whole output reads to both features, with the Locked flag exactly when some band of
+-- the drive that the script leaves has an enabled locked side.
+abbrev pub ShowsLeft : Script → ℕ → List ℕ → Type 0
+ShowsLeft script answer after = (capacity bands sensors : ℕ) (es : List Event) → script ≡ accepted capacity bands sensors es → answer ≡ 0
+    → ShowsDrive (runOf (freshDrive capacity bands sensors) es) (readAnswer after) (shownIn after)
 
 -- what is shown of an answer: the answer's number, "whether each of the two is there and the Locking feature's flags"
 pub data ShownTold : Type 0 where

@@ -30,6 +30,7 @@ ghost use Rattle.api.specs.Exports.{
   eventOn,
   eventTold,
   discoveryTold,
+  ShowsLeft,
   shownTo,
   shownTold,
 };
@@ -335,6 +336,7 @@ pub extern "C" fn drive_event(
 #[no_mangle]
 pub extern "C" fn discovery_write(script: &[u8], out: &mut [u8], length: &mut usize) -> u8
     ensures { λ r. ⌜ told r (now (length .exit)) (now (out .exit)) ≡ discoveryTold (now (length .entry)) (readScript (now (script .entry))) (now (out .entry)) ⌝ }
+    ensures back { λ r. ⌜ ShowsLeft (readScript (now (script .entry))) r (now (out .exit)) ⌝ }
 {
     let left = run::left(script);
     let left_answer = left.answer;

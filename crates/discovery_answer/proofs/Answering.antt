@@ -1,14 +1,11 @@
 -- The writer and the reader together: theorem `discovery-answers`.
-use mathlib.Core.Path.{_≡_, refl, sym, ap, ap₂, _∙_}
-use Prim.Native.Nat.{ℕ, zero, suc, _+_, _<_, _≤_, min}
+use mathlib.Core.Path.{_≡_, refl, sym, ap, _∙_}
+use Prim.Native.Nat.{ℕ, zero, suc, _+_, _<_}
 use native.Mathlib.Omega.{arith}
-use mathlib.Core.Bool.{Bool, true, false, cond, _||_, false≢true}
+use mathlib.Core.Bool.{Bool, true, false, _||_, false≢true}
 use mathlib.Core.List.{List, [], _∷_, _++_}
 use mathlib.Core.Logic.{_↔_}
-use lib.Dec.{ltb}
-use lib.ListN.{length, getD, take, drop, length-take}
-use lib.Seq.{take-all, getD-take}
-use borrow.Author.Tests.{le-ltb, ltb-true, ltb-false}
+use lib.ListN.{length, getD, take, drop}
 use Rattle.base.specs.Lists.{any}
 use Rattle.base.specs.Columns.{named}
 use Rattle.base.proofs.Cases.{cond-either, or-yes, or-second}
@@ -36,20 +33,15 @@ use Rattle.discovery_answer.specs.Format.{
 }
 use Rattle.discovery_answer.specs.Write.{closed, someClosed, flagsOf, discoveryOf}
 use Rattle.discovery_answer.specs.Read.{
-  Descriptors,
   descriptorsUpTo,
-  descriptorsIn,
   firstFlags,
   endIn,
-  featuresIn,
-  isPast,
   readAnswer,
-  shownBy,
   shownIn,
 }
 use Rattle.discovery_answer.specs.Answers.{SomeSideLocked, FlagsAre, bothWith, ShowsDrive, ReadsBack, numbersWith, DiscoveryAnswers}
 use Rattle.discovery_answer.proofs.Writing.{discovery-length, filled-so}
-use Rattle.discovery_answer.proofs.Walking.{same-arms}
+use Rattle.discovery_answer.proofs.Alike.{same-answer, same-shown, header-answer, header-shown, reserved-passed-over, six-flags}
 use Rattle.discovery_answer.proofs.Descriptors.{all-back, only-form}
 
 -- ---- the flags
@@ -133,52 +125,6 @@ module _ (d : Drive) where
   all-flags : flagsIn (flagsOf d) ≡ flagsOf d
   all-flags = by-locked (λ (n : ℕ). flagsIn n ≡ n) (λ e. refl) (λ e. refl)
 
--- ---- bytes that agree up to the stated end
-
--- the answer, where the stated end does not lie past the bytes
-answer-within : (s : List ℕ) → endIn s ≤ length s → readAnswer s ≡ cond (ltb (endIn s) 48) 12 (cond (isPast (featuresIn s)) 12 0)
-unfolding readAnswer
-answer-within s h = rw (le-ltb (length s) (endIn s) h) (go (ltb (endIn s) 48) refl (cond (isPast (featuresIn s)) 12 0))
-  where
-    go : (b : Bool) → ltb (endIn s) 48 ≡ b → (n : ℕ) → cond (ltb (length s) 48) 12 (cond b 12 n) ≡ cond b 12 n
-    go true q n = same-arms (ltb (length s) 48) 12
-    go false q n = rw (le-ltb (length s) 48 (omega (arith, h, ltb-false (endIn s) 48 q)))
-
--- the length field lies before the end, so that both state the same end
-module _ (s t : List ℕ) (e : take (endIn s) s ≡ take (endIn s) t) where
-  same-byte : (i : ℕ) → i < 4 → getD s i 0 ≡ getD t i 0
-  same-byte i h = sym (getD-take (endIn s) s i 0 (omega arith)) ∙ ap (λ (l : List ℕ). getD l i 0) e ∙ getD-take (endIn s) t i 0 (omega arith)
-
-  same-end : endIn s ≡ endIn t
-  same-end = omega (arith, same-byte 0 (omega arith), same-byte 1 (omega arith), same-byte 2 (omega arith), same-byte 3 (omega arith))
-
-  same-length : min (endIn s) (length s) ≡ min (endIn s) (length t)
-  same-length = sym (length-take (endIn s) s) ∙ ap length e ∙ length-take (endIn s) t
-
-  -- the end lies past both: they are the same bytes
-  all-same : length s < endIn s → s ≡ t
-  all-same h = sym (take-all (endIn s) s (omega arith)) ∙ e ∙ take-all (endIn s) t (omega (arith, h, same-length))
-
-  same-features : featuresIn s ≡ featuresIn t
-  same-features = ap (λ (l : List ℕ). descriptorsIn (drop 48 l)) (e ∙ ap (λ (n : ℕ). take n t) same-end)
-
-  same-within : endIn s ≤ length s → readAnswer s ≡ readAnswer t
-  same-within h =
-      answer-within s h
-      ∙ ap₂ (λ (n : ℕ) (ds : Descriptors). cond (ltb n 48) 12 (cond (isPast ds) 12 0)) same-end same-features
-      ∙ sym (answer-within t (omega (arith, h, same-length, same-end)))
-
-  same-answer : readAnswer s ≡ readAnswer t
-  same-answer = go (ltb (length s) (endIn s)) refl
-    where
-      go : (b : Bool) → ltb (length s) (endIn s) ≡ b → readAnswer s ≡ readAnswer t
-      go true q = ap readAnswer (all-same (ltb-true (length s) (endIn s) q))
-      go false q = same-within (ltb-false (length s) (endIn s) q)
-
-  same-shown : shownIn s ≡ shownIn t
-  unfolding shownIn
-  same-shown = ap₂ shownBy same-answer same-features
-
 -- ---- what a drive has written
 
 -- with any flags in their byte
@@ -230,6 +176,9 @@ discovery-answers = record {
   one-answer = λ d out out' after after' w w' f f' z z'.
       filled-bytes (discoveryOf d) out _ _ after f z .1 ∙ sym (filled-bytes (discoveryOf d) out' _ _ after' f' z' .1);
   to-the-end = λ s t e. (same-answer s t e, same-shown s t e);
+  header-passed-over = λ s t l e d. (header-answer s t l e d, header-shown s t l e d);
+  reserved-passed-over = reserved-passed-over;
+  six-flags = six-flags;
   descriptors-back = λ fs a. all-back fs (length (featureBytes fs)) a (omega arith);
   one-form = λ s fs b e. only-form (length s) s fs b e;
 }

@@ -2,4 +2,5 @@ pub mod Writing
 pub mod Walking
 pub mod Reading
 pub mod Descriptors
+pub mod Alike
 pub mod Answering

@@ -3,8 +3,8 @@ use Prim.Native.Nat.{ℕ, _<_}
 use mathlib.Core.Path.{_≡_}
 use mathlib.Core.Logic.{_↔_}
 use mathlib.Core.Bool.{true, false}
-use mathlib.Core.List.{List, [], _∷_, _++_}
-use lib.ListN.{length, take, replicate}
+use mathlib.Core.List.{List, [], _∷_, _++_, map}
+use lib.ListN.{length, getD, take, drop, replicate}
 use Rattle.base.specs.Lists.{Bytes}
 use Rattle.base.specs.Columns.{named}
 use Rattle.answer.specs.Numbers.{numberOf}
@@ -17,7 +17,10 @@ use Rattle.drive.specs.State.{rowAt}
 use Rattle.discovery_answer.specs.declared.Features.{Features}
 use Rattle.discovery_answer.specs.Format.{
   Descriptor,
+  headerBytes,
+  lengthBytes,
   featureBytes,
+  flagsIn,
   lockingSupported,
   lockingEnabled,
   locked,
@@ -26,7 +29,7 @@ use Rattle.discovery_answer.specs.Format.{
   mbrDone,
 }
 use Rattle.discovery_answer.specs.Write.{flagsOf, discoveryOf, discoveryBytes}
-use Rattle.discovery_answer.specs.Read.{whole, descriptorsIn, endIn, readAnswer, shownIn}
+use Rattle.discovery_answer.specs.Read.{whole, descriptorsIn, featuresOf, endIn, readAnswer, shownIn}
 
 -- "some band has an enabled locked side"
 pub record SomeSideLocked (d : Drive) : Type 0 where
@@ -77,6 +80,24 @@ abbrev pub AllFit : List Descriptor → Type 0
 AllFit [] = Unit {0}
 AllFit (f ∷ fs) = Fits f × AllFit fs
 
+-- the reader answers and shows the same
+abbrev pub ReadAlike : List ℕ → List ℕ → Type 0
+ReadAlike s t = (readAnswer s ≡ readAnswer t) × (shownIn s ≡ shownIn t)
+
+-- the flags that are shown of a byte: the six of table 23 as they are, and nothing of the two bits above them
+pub record SixOf (byte flags : ℕ) : Type 0 where
+  pub locking-supported : named lockingSupported flags ≡ named lockingSupported byte
+  pub locking-enabled : named lockingEnabled flags ≡ named lockingEnabled byte
+  pub locked-as-it-is : named locked flags ≡ named locked byte
+  pub media-encryption : named mediaEncryption flags ≡ named mediaEncryption byte
+  pub mbr-enabled : named mbrEnabled flags ≡ named mbrEnabled byte
+  pub mbr-done : named mbrDone flags ≡ named mbrDone byte
+  pub no-other : flags < 64
+
+-- what is looked at of a descriptor: code, version, length and, in the first byte of the content, the six flags
+abbrev pub lookedAt : Descriptor → ℕ × ℕ × ℕ × ℕ
+lookedAt f = (f .code, f .version, length (f .content), flagsIn (getD (f .content) 0 0))
+
 pub record DiscoveryAnswers : Type 0 where
   pub length-is : (d : Drive) → length (discoveryOf d) ≡ discoveryBytes
   -- the bytes that the tables make
@@ -88,7 +109,14 @@ pub record DiscoveryAnswers : Type 0 where
       → toldIn w' after' ≡ filledBy (discoveryOf d) out' → numberOf (w .answer) ≡ 0 → numberOf (w' .answer) ≡ 0
       → take (w .count) after ≡ take (w' .count) after'
   -- "Bytes after the end that the header's length field states are not looked at": of bytes that agree up to that end the same is shown
-  pub to-the-end : (s t : List ℕ) → take (endIn s) s ≡ take (endIn s) t → (readAnswer s ≡ readAnswer t) × (shownIn s ≡ shownIn t)
+  pub to-the-end : (s t : List ℕ) → take (endIn s) s ≡ take (endIn s) t → ReadAlike s t
+  -- "header revision .. (untested on reading), reserved and vendor bytes .. passed over on reading": of the header only the length field is
+  -- looked at,
+  pub header-passed-over : (s t : List ℕ) → length s ≡ length t → take lengthBytes s ≡ take lengthBytes t → drop headerBytes s ≡ drop headerBytes t
+      → ReadAlike s t
+  -- and of each descriptor nothing that is reserved
+  pub reserved-passed-over : (fs gs : List Descriptor) → map lookedAt fs ≡ map lookedAt gs → featuresOf fs ≡ featuresOf gs
+  pub six-flags : (byte : ℕ) → SixOf byte (flagsIn byte)
   -- descriptors read to themselves, whatever their codes, versions and lengths,
   pub descriptors-back : (fs : List Descriptor) → AllFit fs → descriptorsIn (featureBytes fs) ≡ whole fs
   -- and bytes that read to descriptors are the bytes of these, and of no others
