@@ -88,16 +88,16 @@ module _ (s t : List ℕ) (e : take (endIn s) s ≡ take (endIn s) t) where
 
 -- ---- what is passed over
 
-drop-take : (n k : ℕ) (l : List ℕ) → drop n (take k l) ≡ take (k - n) (drop n l)
+pub drop-take : (n k : ℕ) (l : List ℕ) → drop n (take k l) ≡ take (k - n) (drop n l)
 drop-take zero k l = let e : k ≡ k - 0 = omega arith in ap (λ (m : ℕ). take m l) e
 drop-take (suc n) zero l = let e : 0 ≡ 0 - suc n = omega arith in ap (λ (m : ℕ). take m (drop (suc n) l)) e
 drop-take (suc n) (suc k) [] = sym (take-nil (suc k - suc n))
 drop-take (suc n) (suc k) (x ∷ l) = let e : k - n ≡ suc k - suc n = omega arith in drop-take n k l ∙ ap (λ (m : ℕ). take m (drop n l)) e
 
-abbrev answerBy : ℕ → ℕ → Descriptors → ℕ
+abbrev pub answerBy : ℕ → ℕ → Descriptors → ℕ
 answerBy n end ds = cond (ltb n 48) 12 (cond (ltb n end) 12 (cond (ltb end 48) 12 (cond (isPast ds) 12 0)))
 
-answer-by : (s : List ℕ) → readAnswer s ≡ answerBy (length s) (endIn s) (featuresIn s)
+pub answer-by : (s : List ℕ) → readAnswer s ≡ answerBy (length s) (endIn s) (featuresIn s)
 unfolding readAnswer
 answer-by s = refl
 

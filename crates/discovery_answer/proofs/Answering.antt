@@ -43,6 +43,7 @@ use Rattle.discovery_answer.specs.Answers.{SomeSideLocked, FlagsAre, bot
 use Rattle.discovery_answer.proofs.Writing.{discovery-length, filled-so}
 use Rattle.discovery_answer.proofs.Alike.{same-answer, same-shown, header-answer, header-shown, reserved-passed-over, six-flags}
 use Rattle.discovery_answer.proofs.Descriptors.{all-back, only-form}
+use Rattle.discovery_answer.proofs.Exact.{answer-done, answer-shown, only-answers, else-short}
 
 -- ---- the flags
 
@@ -179,6 +180,9 @@ discovery-answers = record {
   header-passed-over = λ s t l e d. (header-answer s t l e d, header-shown s t l e d);
   reserved-passed-over = reserved-passed-over;
   six-flags = six-flags;
+  answers-read = λ s fs a. (answer-done s fs a, answer-shown s fs a);
+  only-answers = only-answers;
+  else-short = else-short;
   descriptors-back = λ fs a. all-back fs (length (featureBytes fs)) a (omega arith);
   one-form = λ s fs b e. only-form (length s) s fs b e;
 }

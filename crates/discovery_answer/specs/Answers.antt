@@ -1,7 +1,7 @@
 -- Document 02, #102: what the writer and the reader come to together (theorem `discovery-answers` in proofs/Answering).
-use Prim.Native.Nat.{ℕ, _<_}
+use Prim.Native.Nat.{ℕ, _+_, _<_}
 use mathlib.Core.Path.{_≡_}
-use mathlib.Core.Logic.{_↔_}
+use mathlib.Core.Logic.{_↔_, _≢_}
 use mathlib.Core.Bool.{true, false}
 use mathlib.Core.List.{List, [], _∷_, _++_, map}
 use lib.ListN.{length, getD, take, drop, replicate}
@@ -80,6 +80,16 @@ abbrev pub AllFit : List Descriptor → Type 0
 AllFit [] = Unit {0}
 AllFit (f ∷ fs) = Fits f × AllFit fs
 
+-- bytes that are an answer with these descriptors: table 1, the header and the descriptors, of which the length field states the end, and
+-- whatever follows
+pub record IsAnswer (s : List ℕ) (fs : List Descriptor) : Type 0 where
+  pub header : List ℕ
+  pub rest : List ℕ
+  pub header-whole : length header ≡ headerBytes
+  pub fit : AllFit fs
+  pub bytes : s ≡ header ++ (featureBytes fs ++ rest)
+  pub end-stated : endIn s ≡ headerBytes + length (featureBytes fs)
+
 -- the reader answers and shows the same
 abbrev pub ReadAlike : List ℕ → List ℕ → Type 0
 ReadAlike s t = (readAnswer s ≡ readAnswer t) × (shownIn s ≡ shownIn t)
@@ -117,6 +127,10 @@ pub record DiscoveryAnswers : Type 0 where
   -- and of each descriptor nothing that is reserved
   pub reserved-passed-over : (fs gs : List Descriptor) → map lookedAt fs ≡ map lookedAt gs → featuresOf fs ≡ featuresOf gs
   pub six-flags : (byte : ℕ) → SixOf byte (flagsIn byte)
+  -- bytes that are an answer are read, and show what their descriptors show; no others are read, and these get "12 short answer"
+  pub answers-read : (s : List ℕ) (fs : List Descriptor) → IsAnswer s fs → (readAnswer s ≡ 0) × (shownIn s ≡ featuresOf fs)
+  pub only-answers : (s : List ℕ) → Bytes s → readAnswer s ≡ 0 → (fs : List Descriptor) × IsAnswer s fs
+  pub else-short : (s : List ℕ) → readAnswer s ≢ 0 → readAnswer s ≡ 12
   -- descriptors read to themselves, whatever their codes, versions and lengths,
   pub descriptors-back : (fs : List Descriptor) → AllFit fs → descriptorsIn (featureBytes fs) ≡ whole fs
   -- and bytes that read to descriptors are the bytes of these, and of no others
