@@ -100,11 +100,11 @@ code-other code n p q t (some s) e = rw (ne-eqb code 0 p, ne-eqb code 1 q, ne-eq
 
 -- an element, by its part
 pub reference : (cs : List Bool) (p : Part) (row n r : ℕ) (v : Bool) → p ≡ Reference row → v ≡ conditionAt cs row
-    → Does (λ s. some (v ∷ s)) n r → Does (putElement cs p) n r
+    → Does (λ s. some (v ∷ s)) n r → Does (putElement (conditionAt cs) p) n r
 reference cs p row n r v e w d = rw e (rw w at d)
 
-pub operator : (cs : List Bool) (p : Part) (code n r : ℕ) → p ≡ Operator code → Does (operatorOf code) n r → Does (putElement cs p) n r
-operator cs p code n r e d = rw e d
+pub operator : (f : ℕ → Bool) (p : Part) (code n r : ℕ) → p ≡ Operator code → Does (operatorOf code) n r → Does (putElement f p) n r
+operator f p code n r e d = rw e d
 
 -- an element adds at most one bit
 two-bits : (f : Bool → Bool → Bool) (s : List Bool) → heldAs (onTwo f s) ≤ bitsOf s * 2 + 1
@@ -125,10 +125,10 @@ coded-bits code s = go (eqb code 0) (eqb code 1) (eqb code 2)
     go false false true = one-bits not s
     go false false false = omega arith
 
-pub one-more : (cs : List Bool) (p : Part) (held : Option (List Bool)) → heldAs (onStack (putElement cs p) held) ≤ heldAs held * 2 + 1
-one-more cs p none = omega arith
-one-more cs (Reference row) (some s) = omega (arith, oneIf-le (conditionAt cs row))
-one-more cs (Operator code) (some s) = coded-bits code s
+pub one-more : (f : ℕ → Bool) (p : Part) (held : Option (List Bool)) → heldAs (onStack (putElement f p) held) ≤ heldAs held * 2 + 1
+one-more f p none = omega arith
+one-more f (Reference row) (some s) = omega (arith, oneIf-le (f row))
+one-more f (Operator code) (some s) = coded-bits code s
 
 -- the value at the end
 pub ended : (held : Option (List Bool)) (n : ℕ) → n ≡ heldAs held → eqb n 3 ≡ orFalse (endOf held)

@@ -10,35 +10,34 @@ use Rattle.base.proofs.Cases.{or-yes}
 use Rattle.expression.specs.declared.Part.{Part}
 use Rattle.expression.specs.declared.Part.the-variants.{Reference, Operator}
 use Rattle.expression.specs.declared.Element.{Element}
-use Rattle.evaluator.specs.Value.{conditionAt, putElement, onStack, evaluate, resultOf, orFalse, valueOf, refersTo, mentions}
+use Rattle.evaluator.specs.Value.{conditionAt, putElement, onStack, evaluate, resultBy, orFalse, valueOf, refersTo, mentions}
 
 or-second : (a b : Bool) → b ≡ true → (a || b) ≡ true
 or-second true b e = refl
 or-second false b e = e
 
-module _ (cs ds : List Bool) where
-  step-agree : (p : Part) (stack : Option (List Bool)) → ((row : ℕ) → refersTo row p ≡ true → conditionAt cs row ≡ conditionAt ds row)
-      → onStack (putElement cs p) stack ≡ onStack (putElement ds p) stack
+module _ (f g : ℕ → Bool) where
+  step-agree : (p : Part) (stack : Option (List Bool)) → ((row : ℕ) → refersTo row p ≡ true → f row ≡ g row)
+      → onStack (putElement f p) stack ≡ onStack (putElement g p) stack
   step-agree p none h = refl
   step-agree (Reference row) (some s) h = rw (h row (eq-eqb row row refl))
   step-agree (Operator code) (some s) h = refl
 
-  agree : (es : List Element) (stack : Option (List Bool)) → ((row : ℕ) → mentions row es ≡ true → conditionAt cs row ≡ conditionAt ds row)
-      → evaluate cs es stack ≡ evaluate ds es stack
+  agree : (es : List Element) (stack : Option (List Bool)) → ((row : ℕ) → mentions row es ≡ true → f row ≡ g row)
+      → evaluate f es stack ≡ evaluate g es stack
   unfolding evaluate mentions any
   agree [] stack h = refl
   agree (e ∷ es) stack h =
       rw (step-agree (e .part) stack (λ row q. h row (sym (or-yes (refersTo row (e .part)) (mentions row es) q))))
-      (agree es (onStack (putElement ds (e .part)) stack) (λ row q. h row (or-second (refersTo row (e .part)) (mentions row es) q)))
+      (agree es (onStack (putElement g (e .part)) stack) (λ row q. h row (or-second (refersTo row (e .part)) (mentions row es) q)))
 
-  pub value-agree : (es : List Element) → ((row : ℕ) → mentions row es ≡ true → conditionAt cs row ≡ conditionAt ds row)
-      → resultOf cs es ≡ resultOf ds es
-  value-agree es h = agree es (some []) h
+  pub result-agree : (es : List Element) → ((row : ℕ) → mentions row es ≡ true → f row ≡ g row) → resultBy f es ≡ resultBy g es
+  result-agree es h = agree es (some []) h
 
-  pub value-same : (es : List Element) → ((row : ℕ) → mentions row es ≡ true → conditionAt cs row ≡ conditionAt ds row)
-      → valueOf cs es ≡ valueOf ds es
-  unfolding valueOf
-  value-same es h = ap orFalse (value-agree es h)
+pub value-same : (cs ds : List Bool) (es : List Element)
+    → ((row : ℕ) → mentions row es ≡ true → conditionAt cs row ≡ conditionAt ds row) → valueOf cs es ≡ valueOf ds es
+unfolding valueOf
+value-same cs ds es h = ap orFalse (result-agree (conditionAt cs) (conditionAt ds) es h)
 
 pub value-empty : (cs : List Bool) → valueOf cs [] ≡ false
 unfolding valueOf evaluate

@@ -12,7 +12,7 @@ use lib.ListN.{getD, length, take, drop, length-take, drop-of-length-le}
 use lib.Pow.{pow-mono}
 use lib.Seq.{drop-cons, getD-take}
 use Rattle.expression.specs.declared.Element.{Element}
-use Rattle.evaluator.specs.Value.{putElement, onStack, evaluate, resultOf, orFalse, valueOf}
+use Rattle.evaluator.specs.Value.{conditionAt, putElement, onStack, evaluate, resultOf, orFalse, valueOf}
 use Rattle.evaluator.specs.Parts.{heldAs, Does}
 use Rattle.evaluator.proofs.Bits.{ended, one-more}
 
@@ -22,7 +22,7 @@ pub record Ran (es : List Element) (cs : List Bool) (count i n : ℕ) : Type 0 w
   pub held : Option (List Bool)
   pub bits : n ≡ heldAs held
   pub few : n < 2 ^ (i + 1)
-  pub same : evaluate cs (drop i (take count es)) held ≡ resultOf cs (take count es)
+  pub same : evaluate (conditionAt cs) (drop i (take count es)) held ≡ resultOf cs (take count es)
 
 double : (i : ℕ) → 2 ^ (i + 1 + 1) ≡ 2 ^ (i + 1) * 2
 double i = ap (λ (k : ℕ). 2 ^ k) (add-one (i + 1)) ∙ pow-suc 2 (i + 1)
@@ -35,17 +35,17 @@ module _ (es : List Element) (cs : List Bool) (count : ℕ) where
   pub room : (i n : ℕ) → Ran es cs count i n → i < 32 → n < 4294967296
   room i n h k = omega (arith, h .few, pow-mono {i = i + 1} {j = 32} (omega arith))
 
-  pub again : (i n r : ℕ) (d : Element) → Ran es cs count i n → i < 32 → i < count → Does (putElement cs (getD es i d .part)) n r
+  pub again : (i n r : ℕ) (d : Element) → Ran es cs count i n → i < 32 → i < count → Does (putElement (conditionAt cs) (getD es i d .part)) n r
       → Ran es cs count (i + 1) r
   unfolding evaluate
   again i n r d h k more t = record {
     low = omega arith;
     long = h .long;
-    held = onStack (putElement cs (getD es i d .part)) (h .held);
+    held = onStack (putElement (conditionAt cs) (getD es i d .part)) (h .held);
     bits = t (h .held) (h .bits);
     few =
         rw double
-        (omega (arith, h .few, h .bits, t (h .held) (h .bits), one-more cs (getD es i d .part) (h .held)));
+        (omega (arith, h .few, h .bits, t (h .held) (h .bits), one-more (conditionAt cs) (getD es i d .part) (h .held)));
     same =
         rw add-one
         (rw (← getD-take count es i d more) (rw (drop-cons (take count es) i d (rw length-take (omega (arith, h .long)))) at (h .same)));

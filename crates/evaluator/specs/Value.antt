@@ -10,7 +10,7 @@ use Rattle.expression.specs.declared.Part.{Part}
 use Rattle.expression.specs.declared.Part.the-variants.{Reference, Operator}
 use Rattle.expression.specs.declared.Element.{Element}
 
--- "A reference puts the row's condition on the stack, FALSE if that row is absent."
+-- "A reference puts the row's condition on the stack, FALSE if that row is absent.": of a condition for each row
 abbrev pub conditionAt : List Bool → ℕ → Bool
 conditionAt conditions row = getD conditions row false
 
@@ -28,10 +28,10 @@ onOne f (a ∷ stack) = some (f a ∷ stack)
 abbrev pub operatorOf : ℕ → List Bool → Option (List Bool)
 operatorOf code stack = cond (eqb code 0) (onTwo _&&_ stack) (cond (eqb code 1) (onTwo _||_ stack) (cond (eqb code 2) (onOne not stack) none))
 
--- one element on the stack
-abbrev pub putElement : List Bool → Part → List Bool → Option (List Bool)
-putElement conditions (Reference row) stack = some (conditionAt conditions row ∷ stack)
-putElement conditions (Operator code) stack = operatorOf code stack
+-- one element on the stack; f is what a reference to a row puts
+abbrev pub putElement : (ℕ → Bool) → Part → List Bool → Option (List Bool)
+putElement f (Reference row) stack = some (f row ∷ stack)
+putElement f (Operator code) stack = operatorOf code stack
 
 -- once malformed, always malformed
 abbrev pub onStack : (List Bool → Option (List Bool)) → Option (List Bool) → Option (List Bool)
@@ -45,22 +45,29 @@ endOf (some []) = none
 endOf (some (v ∷ [])) = some v
 endOf (some (v ∷ w ∷ stack)) = none
 
--- "Postfix."
-unfoldable pub evaluate : List Bool → List Element → Option (List Bool) → Option Bool
-evaluate conditions [] stack = endOf stack
-evaluate conditions (e ∷ es) stack = evaluate conditions es (onStack (putElement conditions (e .part)) stack)
+-- "Postfix.": the walk
+unfoldable pub evaluate : (ℕ → Bool) → List Element → Option (List Bool) → Option Bool
+evaluate f [] stack = endOf stack
+evaluate f (e ∷ es) stack = evaluate f es (onStack (putElement f (e .part)) stack)
 
 -- TRUE, FALSE or, as none, malformed
-abbrev pub resultOf : List Bool → List Element → Option Bool
-resultOf conditions es = evaluate conditions es (some [])
+abbrev pub resultBy : (ℕ → Bool) → List Element → Option Bool
+resultBy f es = evaluate f es (some [])
 
 -- "Empty or malformed is stored and has the value FALSE."
 abbrev pub orFalse : Option Bool → Bool
 orFalse none = false
 orFalse (some v) = v
 
+abbrev pub valueBy : (ℕ → Bool) → List Element → Bool
+valueBy f es = orFalse (resultBy f es)
+
+-- both under the sensors' conditions
+abbrev pub resultOf : List Bool → List Element → Option Bool
+resultOf conditions es = resultBy (conditionAt conditions) es
+
 unfoldable pub valueOf : List Bool → List Element → Bool
-valueOf conditions es = orFalse (resultOf conditions es)
+valueOf conditions es = valueBy (conditionAt conditions) es
 
 -- "refers to that sensor's row": a part, and a list of elements
 abbrev pub refersTo : ℕ → Part → Bool

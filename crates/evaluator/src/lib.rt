@@ -85,7 +85,7 @@ fn operate(stack: u64, code: u8) -> u64
 // One element.
 fn step(stack: u64, part: Part, conditions: [bool; 16]) -> u64
     requires { ⌜ stack < 4294967296 ⌝ }
-    ensures { λ r. ⌜ Does (putElement conditions part) stack r ⌝ }
+    ensures { λ r. ⌜ Does (putElement (conditionAt conditions) part) stack r ⌝ }
 {
     match part {
         Part::Reference(row) => push(stack, condition(conditions, row)),
