@@ -1,6 +1,7 @@
 // Reads strings of bytes from standard input, each after its length in four bytes, low first, and prints a line for each: its number, its
-// length and the token reader's answer. Where that is 0 there follow the elements, their value under three sets of conditions, what the
-// writer answers and whether it writes the same bytes and keeps the rest of its output, and its answer to an output one byte short.
+// length and the token reader's answer. Where that is 0 there follow the elements, their value under three sets of conditions, their values on
+// two sets of sensors of which 0 to 17, and then more than there can be, are said to be there, what the writer answers and whether it writes the
+// same bytes and keeps the rest of its output, and its answer to an output one byte short.
 //
 // Then it prints a line for each of some calls of the writer with a list of numbers: the list's length, the output's, the answer, the
 // bytes written, whether the rest was kept, and those bytes.
@@ -11,11 +12,14 @@ use answer::Answer;
 use expression::Expression;
 use expression::Part;
 use output::Written;
+use sensor::Sensor;
 
 // What an output holds before the writer is called, and how much of it there is.
 const BLANK: u8 = 0xEE;
 
 const ROOM: usize = 400;
+
+const MOST: usize = 18_446_744_073_709_551_615;
 
 const AND: u64 = token_writer::OPERATORS;
 
@@ -120,6 +124,43 @@ fn print_values(expression: Expression) {
     print_value(evaluator::value_of(expression, even));
 }
 
+fn sensor(condition: bool) -> Sensor {
+    let mut s = Sensor::fresh();
+    s.condition = condition;
+    s
+}
+
+// Sixteen sensors, those of the odd rows TRUE and the others as said.
+fn odd_and(even: bool) -> [Sensor; 16] {
+    let e = sensor(even);
+    let o = sensor(true);
+    [e, o, e, o, e, o, e, o, e, o, e, o, e, o, e, o]
+}
+
+fn print_digit(value: bool) {
+    if value {
+        print(b"1");
+    } else {
+        print(b"0");
+    }
+}
+
+// The values on sixteen sensors, by how many of them are there.
+fn print_by_count(expression: Expression, all: [Sensor; 16]) {
+    let elements = expression.elements;
+    print(b" ");
+    for present in 0..18 {
+        print_digit(limit::value(elements, expression.count, all, present));
+    }
+    print_digit(limit::value(elements, expression.count, all, MOST));
+}
+
+fn print_counted(expression: Expression) {
+    print(b";");
+    print_by_count(expression, odd_and(true));
+    print_by_count(expression, odd_and(false));
+}
+
 // Whether the output's first `count` bytes are these bytes.
 fn begins(out: &[u8], count: usize, bytes: &[u8]) -> bool {
     if count != bytes.len() {
@@ -208,6 +249,7 @@ fn case(number: usize, bytes: &[u8]) {
     if answer.number() == 0 {
         print_elements(expression);
         print_values(expression);
+        print_counted(expression);
         let needed = print_written(expression, bytes);
         print_short(expression, needed);
     }

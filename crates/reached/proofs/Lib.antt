@@ -2,3 +2,4 @@ pub mod Tables
 pub mod Reaching
 pub mod Worked
 pub mod Readings
+pub mod Values

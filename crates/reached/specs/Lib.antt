@@ -1,3 +1,4 @@
 pub mod Reached
 pub mod Starred
 pub mod Readings
+pub mod Values
