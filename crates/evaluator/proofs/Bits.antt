@@ -15,8 +15,8 @@ use Rattle.expression.specs.declared.Part.the-variants.{Reference, Operator}
 use Rattle.evaluator.specs.Value.{conditionAt, onTwo, onOne, operatorOf, putElement, onStack, endOf, orFalse}
 use Rattle.evaluator.specs.Parts.{bitsOf, heldAs, Does}
 
-pub absent : (cs : List Bool) (row : ℕ) → length cs ≡ 16 → 16 ≤ row → false ≡ conditionAt cs row
-absent cs row e h = sym (List·getD-eq-default cs false (omega arith))
+pub absent : (cs : List Bool) (row : ℕ) → length cs ≤ row → false ≡ conditionAt cs row
+absent cs row h = sym (List·getD-eq-default cs false h)
 
 -- the 1 above the first value
 some-bits : (s : List Bool) → 1 ≤ bitsOf s

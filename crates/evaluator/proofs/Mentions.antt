@@ -1,9 +1,10 @@
 -- The value depends only on the conditions of the rows that the elements refer to.
 use Prim.Native.Nat.{ℕ}
-use mathlib.Core.Path.{_≡_, refl, sym, ap}
+use mathlib.Core.Path.{_≡_, refl, sym, ap, _∙_}
 use mathlib.Core.Bool.{Bool, true, false, _||_}
 use mathlib.Core.List.{List, [], _∷_}
 use mathlib.Core.Option.{Option, none, some}
+use lib.ListN.{take}
 use borrow.Author.Tests.{eq-eqb}
 use Rattle.base.specs.Lists.{any}
 use Rattle.base.proofs.Cases.{or-yes}
@@ -42,3 +43,7 @@ value-same cs ds es h = ap orFalse (result-agree (conditionAt cs) (conditionAt d
 pub value-empty : (cs : List Bool) → valueOf cs [] ≡ false
 unfolding valueOf evaluate
 value-empty cs = refl
+
+-- of no elements
+pub none-taken : (cs : List Bool) (es : List Element) (n : ℕ) → n ≡ 0 → false ≡ valueOf cs (take n es)
+none-taken cs es n e = sym (ap (λ (k : ℕ). valueOf cs (take k es)) e ∙ value-empty cs)

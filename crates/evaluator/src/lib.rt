@@ -14,12 +14,12 @@ use expression::Element;
 use expression::Expression;
 use expression::Part;
 
-// The condition of a row, FALSE where the row is absent.
-fn condition(conditions: [bool; 16], row: u32) -> bool
-    ensures { λ r. ⌜ r ≡ conditionAt conditions row ⌝ }
+// The condition of a row, FALSE where the row is absent. The conditions are lent to the walk: by value they would be copied at each reference.
+fn condition(conditions: &[bool], row: u32) -> bool
+    ensures { λ r. ⌜ r ≡ conditionAt (now (conditions .entry)) row ⌝ }
 {
-    if row < 16 {
-        let at = row as usize;
+    let at = row as usize;
+    if at < conditions.len() {
         return conditions[at];
     }
     false
@@ -83,9 +83,9 @@ fn operate(stack: u64, code: u8) -> u64
 }
 
 // One element.
-fn step(stack: u64, part: Part, conditions: [bool; 16]) -> u64
+fn step(stack: u64, part: Part, conditions: &[bool]) -> u64
     requires { ⌜ stack < 4294967296 ⌝ }
-    ensures { λ r. ⌜ Does (putElement (conditionAt conditions) part) stack r ⌝ }
+    ensures { λ r. ⌜ Does (putElement (conditionAt (now (conditions .entry))) part) stack r ⌝ }
 {
     match part {
         Part::Reference(row) => push(stack, condition(conditions, row)),
@@ -104,15 +104,18 @@ pub fn value(elements: [Element; 32], count: usize, conditions: [bool; 16]) -> b
         }
         let e = elements[i];
         let part = e.part;
-        stack = step(stack, part, conditions);
+        stack = step(stack, part, &conditions);
     }
     stack == 3
 }
 
-// The value of an expression under the sixteen conditions.
+// The value of an expression under the sixteen conditions. Of an empty one nothing is copied.
 pub fn value_of(expression: Expression, conditions: [bool; 16]) -> bool
     ensures { λ r. ⌜ r ≡ valueOf conditions (elementsIn expression) ⌝ }
 {
+    if expression.count == 0 {
+        return false;
+    }
     let elements = expression.elements;
     value(elements, expression.count, conditions)
 }

@@ -13,7 +13,7 @@ use Rattle.reached.specs.Starred.{row, NOT, Starred}
 
 not-99 : (conditions : List Bool) → length conditions ≡ 16 → valueOf conditions (row 99 ∷ NOT ∷ []) ≡ true
 unfolding valueOf evaluate
-not-99 conditions e = ap not (sym (absent conditions 99 e (omega arith)))
+not-99 conditions e = ap not (sym (absent conditions 99 (omega (arith, e))))
 
 -- The cases with numbers in them compute: through the bytes of tokens, the value of an expression, and the rules of the drive.
 pub starred : Starred

@@ -5,10 +5,10 @@ use Rattle.evaluator.proofs.value.Statement.{statement}
 use Rattle.evaluator.proofs.value.Tie as tie
 
 abbrev Inv-loop : tie.InvT-loop
-Inv-loop count conditions elements stack₀ i₀ stack i = Ran elements conditions count i stack
+Inv-loop count elements conditions stack₀ i₀ stack i = Ran elements conditions count i stack
 
 abbrev μ-loop : tie.MeasureT-loop
-μ-loop count conditions elements stack₀ i₀ stack i = 32 - i
+μ-loop count elements conditions stack₀ i₀ stack i = 32 - i
 
 loop-holds : tie.Need-loop-holds Inv-loop μ-loop
 loop-holds c = search (start, needs)
@@ -21,6 +21,9 @@ mul-e c = search needs
 
 array-copy-out-e : tie.Need-array-copy-out-e Inv-loop μ-loop
 array-copy-out-e c = search needs
+
+slice-aggregate-step : tie.Need-slice-aggregate-step Inv-loop μ-loop
+slice-aggregate-step c = search needs
 
 step-requires : tie.Need-step-requires Inv-loop μ-loop
 step-requires c κs = search room
@@ -47,6 +50,7 @@ value-spec =
     returns
     mul-e
     array-copy-out-e
+    slice-aggregate-step
     step-requires
     add-i
     loop-less
