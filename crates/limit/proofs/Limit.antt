@@ -16,7 +16,7 @@ use Rattle.sensors.proofs.Gather.{condition-below, condition-past}
 use Rattle.expression.specs.declared.Element.{Element}
 use Rattle.evaluator.specs.Value.{conditionAt, resultOf, orFalse, valueOf}
 use Rattle.evaluator.proofs.Mentions.{result-agree}
-use Rattle.limit.specs.Limit.{ownConditions, conditionBelow, resultBelow, valueBelow, LimitTest}
+use Rattle.limit.specs.Limit.{ownConditions, testedCondition, testedResult, testedValue, LimitTest}
 
 sixteen : (count : ℕ) (l : List Sensor) → length (conditionsBelow count l) ≡ length l
 unfolding conditionsBelow
@@ -33,32 +33,32 @@ present : (count : ℕ) (l : List Sensor) (row : ℕ) → row < count → condit
 present count l row h = condition-below count l row h ∙ sym (own-at l row)
 
 -- a condition that was filled is the one that the test gives
-filled : (count : ℕ) (l : List Sensor) (row : ℕ) → conditionAt (conditionsBelow count l) row ≡ conditionBelow count l row
+filled : (count : ℕ) (l : List Sensor) (row : ℕ) → conditionAt (conditionsBelow count l) row ≡ testedCondition count l row
 filled count l row = go (ltb row count) refl
   where
     go : (t : Bool) → ltb row count ≡ t → conditionAt (conditionsBelow count l) row ≡ cond t (conditionAt (ownConditions l) row) false
     go true e = present count l row (ltb-true row count e)
     go false e = condition-past count l row (ltb-false row count e)
 
-results-stay : (count : ℕ) (l : List Sensor) (es : List Element) → resultOf (conditionsBelow count l) es ≡ resultBelow count l es
-results-stay count l es = result-agree (conditionAt (conditionsBelow count l)) (conditionBelow count l) es (λ row m. filled count l row)
+results-stay : (count : ℕ) (l : List Sensor) (es : List Element) → resultOf (conditionsBelow count l) es ≡ testedResult count l es
+results-stay count l es = result-agree (conditionAt (conditionsBelow count l)) (testedCondition count l) es (λ row m. filled count l row)
 
-values-stay : (count : ℕ) (l : List Sensor) (es : List Element) → valueOf (conditionsBelow count l) es ≡ valueBelow count l es
-unfolding valueOf valueBelow
+values-stay : (count : ℕ) (l : List Sensor) (es : List Element) → valueOf (conditionsBelow count l) es ≡ testedValue count l es
+unfolding valueOf testedValue
 values-stay count l es = ap orFalse (results-stay count l es)
 
 -- the evaluator's value, under the conditions that were filled
 pub tied : (count : ℕ) (l : List Sensor) (es : List Element) (conditions : List Bool) (v : Bool) → conditions ≡ conditionsBelow count l
-    → v ≡ valueOf conditions es → v ≡ valueBelow count l es
+    → v ≡ valueOf conditions es → v ≡ testedValue count l es
 tied count l es conditions v f h = h ∙ ap (λ (cs : List Bool). valueOf cs es) f ∙ values-stay count l es
 
 -- two tests that give each row the same condition
-alike : (n m : ℕ) (l k : List Sensor) (es : List Element) → ((row : ℕ) → conditionBelow n l row ≡ conditionBelow m k row)
-    → valueBelow n l es ≡ valueBelow m k es
-unfolding valueBelow
-alike n m l k es h = ap orFalse (result-agree (conditionBelow n l) (conditionBelow m k) es (λ row q. h row))
+alike : (n m : ℕ) (l k : List Sensor) (es : List Element) → ((row : ℕ) → testedCondition n l row ≡ testedCondition m k row)
+    → testedValue n l es ≡ testedValue m k es
+unfolding testedValue
+alike n m l k es h = ap orFalse (result-agree (testedCondition n l) (testedCondition m k) es (λ row q. h row))
 
-none-above : (count : ℕ) (l k : List Sensor) (es : List Element) → take count l ≡ take count k → valueBelow count l es ≡ valueBelow count k es
+none-above : (count : ℕ) (l k : List Sensor) (es : List Element) → take count l ≡ take count k → testedValue count l es ≡ testedValue count k es
 none-above count l k es h = alike count count l k es (λ row. go row (ltb row count) refl)
   where
     at : (row : ℕ) → row < count → conditionAt (ownConditions l) row ≡ conditionAt (ownConditions k) row
@@ -75,9 +75,9 @@ none-above count l k es h = alike count count l k es (λ row. go row (ltb row co
     go row true e = at row (ltb-true row count e)
     go row false e = refl
 
-all-below : (count : ℕ) (l : List Sensor) (es : List Element) → length l ≤ count → valueBelow count l es ≡ valueOf (ownConditions l) es
-unfolding valueOf valueBelow
-all-below count l es h = ap orFalse (result-agree (conditionBelow count l) (conditionAt (ownConditions l)) es (λ row q. go row (ltb row count) refl))
+all-below : (count : ℕ) (l : List Sensor) (es : List Element) → length l ≤ count → testedValue count l es ≡ valueOf (ownConditions l) es
+unfolding valueOf testedValue
+all-below count l es h = ap orFalse (result-agree (testedCondition count l) (conditionAt (ownConditions l)) es (λ row q. go row (ltb row count) refl))
   where
     past : (row : ℕ) → count ≤ row → length (ownConditions l) ≤ row
     past row k = omega (arith, length-map l (λ (s : Sensor). s .condition))

@@ -17,16 +17,17 @@ use Rattle.evaluator.specs.Value.{conditionAt, resultBy, valueBy, resultOf, val
 abbrev pub ownConditions : List Sensor → List Bool
 ownConditions sensors = map (λ s. s .condition) sensors
 
--- The limit test, made at a reference: a row at or above the count is absent, so FALSE; else it is that sensor's condition.
-abbrev pub conditionBelow : ℕ → List Sensor → ℕ → Bool
-conditionBelow count sensors row = cond (ltb row count) (conditionAt (ownConditions sensors) row) false
+-- The limit test, made at a reference: a row at or above the count is absent, so FALSE; else it is that sensor's condition (and FALSE for a row
+-- that no sensor has, where the count is above their number).
+abbrev pub testedCondition : ℕ → List Sensor → ℕ → Bool
+testedCondition count sensors row = cond (ltb row count) (conditionAt (ownConditions sensors) row) false
 
 -- the walk with that test inside: TRUE, FALSE or malformed, and the value
-abbrev pub resultBelow : ℕ → List Sensor → List Element → Option Bool
-resultBelow count sensors es = resultBy (conditionBelow count sensors) es
+abbrev pub testedResult : ℕ → List Sensor → List Element → Option Bool
+testedResult count sensors es = resultBy (testedCondition count sensors) es
 
-unfoldable pub valueBelow : ℕ → List Sensor → List Element → Bool
-valueBelow count sensors es = valueBy (conditionBelow count sensors) es
+unfoldable pub testedValue : ℕ → List Sensor → List Element → Bool
+testedValue count sensors es = valueBy (testedCondition count sensors) es
 
 pub record LimitTest : Type 0 where
   -- "the evaluator shall take sixteen conditions": as many as there are sensors, whatever the count
@@ -38,15 +39,15 @@ pub record LimitTest : Type 0 where
       → conditionAt (conditionsBelow count sensors) row ≡ conditionAt (ownConditions sensors) row
   -- "Values stay, for every element list and every count.": and so does whether the list is malformed
   pub results-stay : (count : ℕ) (sensors : List Sensor) (es : List Element)
-      → resultOf (conditionsBelow count sensors) es ≡ resultBelow count sensors es
+      → resultOf (conditionsBelow count sensors) es ≡ testedResult count sensors es
   pub values-stay : (count : ℕ) (sensors : List Sensor) (es : List Element)
-      → valueOf (conditionsBelow count sensors) es ≡ valueBelow count sensors es
+      → valueOf (conditionsBelow count sensors) es ≡ testedValue count sensors es
   -- what the sensors at or above the count hold makes no difference
   pub none-above : (count : ℕ) (sensors others : List Sensor) (es : List Element) → take count sensors ≡ take count others
-      → valueBelow count sensors es ≡ valueBelow count others es
+      → testedValue count sensors es ≡ testedValue count others es
   -- and a count above all of them has them all
   pub all-below : (count : ℕ) (sensors : List Sensor) (es : List Element) → length sensors ≤ count
-      → valueBelow count sensors es ≡ valueOf (ownConditions sensors) es
+      → testedValue count sensors es ≡ valueOf (ownConditions sensors) es
   -- where every sensor at or above the count is FALSE, as on each drive that events reach, the test makes no difference
   pub all-false-above : (count : ℕ) (sensors : List Sensor)
       → ((row : ℕ) → count ≤ row → conditionAt (ownConditions sensors) row ≡ false)

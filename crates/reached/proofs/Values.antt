@@ -6,7 +6,7 @@ use mathlib.Core.List.{List, [], _∷_, map}
 use Rattle.sensor.specs.declared.single.Sensor.{Sensor}
 use Rattle.sensor.proofs.Motion.{fresh-condition}
 use Rattle.expression.specs.Elements.{elementsIn}
-use Rattle.limit.specs.Limit.{ownConditions, valueBelow}
+use Rattle.limit.specs.Limit.{ownConditions, testedValue}
 use Rattle.limit.proofs.Limit.{own-at, limit-test}
 use Rattle.band.specs.declared.Row.{Row}
 use Rattle.band.specs.Rows.{lockUnder, valueIn, settleRow}

@@ -5,7 +5,7 @@ use mathlib.Core.Path.{_≡_}
 use mathlib.Core.Bool.{Bool}
 use mathlib.Core.List.{map}
 use Rattle.expression.specs.Elements.{elementsIn}
-use Rattle.limit.specs.Limit.{ownConditions, valueBelow}
+use Rattle.limit.specs.Limit.{ownConditions, testedValue}
 use Rattle.band.specs.declared.Row.{Row}
 use Rattle.band.specs.Rows.{lockUnder, valueIn}
 use Rattle.band_columns.specs.declared.BandColumns.{BandColumns}
@@ -17,7 +17,7 @@ use Rattle.reached.specs.Reached.{Reached}
 
 -- the value of a row's expression on a drive, with the test inside the walk
 abbrev pub valueOn : Drive → Row → Bool
-valueOn d row = valueBelow (d .«sensor_count») (d .sensors) (elementsIn (row .expression))
+valueOn d row = testedValue (d .«sensor_count») (d .sensors) (elementsIn (row .expression))
 
 pub record DriveValues : Type 0 where
   -- "Values stay, for every element list and every count.": of every row, on every drive
