@@ -16,6 +16,12 @@ const MOST: u64 = 18_446_744_073_709_551_615;
 const ALWAYS: [u8; 22] =
     *b"\xF0\xF2\xA4\x00\x00\x0C\x0E\xA4\x00\x00\x00\x63\xF3\xF2\xA4\x00\x00\x04\x0E\x02\xF3\xF1";
 
+// Row 1, and NOT of row 1.
+const SECOND: [u8; 14] = *b"\xF0\xF2\xA4\x00\x00\x0C\x0E\xA4\x00\x00\x00\x01\xF3\xF1";
+
+const NOT_SECOND: [u8; 22] =
+    *b"\xF0\xF2\xA4\x00\x00\x0C\x0E\xA4\x00\x00\x00\x01\xF3\xF2\xA4\x00\x00\x04\x0E\x02\xF3\xF1";
+
 fn print(text: &[u8]) {
     io::write_all(1, text);
 }
@@ -408,6 +414,55 @@ fn least_drive() {
     end(d);
 }
 
+// A drive of one band whose read side is enabled and has an expression, and of sixteen sensors that are all TRUE. Nothing has settled.
+fn guarded(tokens: &[u8]) -> Drive {
+    let fresh = Drive::fresh(1_000, 1, 16);
+    let drive = fresh.drive;
+    let reply = events::apply(
+        drive,
+        Kind::BandSet {
+            band: 0,
+            columns: set(32, 0),
+        },
+        tokens,
+    );
+    let mut made = reply.drive;
+    let mut s = Sensor::fresh();
+    s.condition = true;
+    made.sensors = [s; 16];
+    let mut row = made.rows[0];
+    row.read_lock_enabled = true;
+    made.rows[0] = row;
+    made
+}
+
+// The drive with so many sensors there: after a transfer of nothing, what an unlock is answered, ReadLocked and the value.
+fn count_sensors(drive: Drive, count: usize) {
+    let mut counted = drive;
+    counted.sensor_count = count;
+    let moved = events::transfer(counted, 0, 0, 0);
+    let settled = moved.drive;
+    let reply = events::set_band(settled, 0, set(4, 0), b"");
+    let answer = reply.answer;
+    let left = reply.drive;
+    let rows = left.rows;
+    let row = rows[0];
+    print(b"n");
+    print_next(count as u64);
+    print_answer(answer);
+    print_bit(row.read_locked);
+    print_bit(row.value(left.conditions()));
+    print(b"\n");
+}
+
+// 0 to 17 sensors, and as many as can be said.
+fn counts(drive: Drive) {
+    for count in 0..18 {
+        count_sensors(drive, count);
+    }
+    count_sensors(drive, MOST as usize);
+}
+
 fn main() {
     let mut input = [0; 8_192];
     let n = io::read_full(0, &mut input);
@@ -415,4 +470,6 @@ fn main() {
     outside_a_script();
     headers();
     least_drive();
+    counts(guarded(&SECOND));
+    counts(guarded(&NOT_SECOND));
 }
