@@ -52,14 +52,10 @@ pub tied : (count : ℕ) (l : List Sensor) (es : List Element) (conditions : Lis
     → v ≡ valueOf conditions es → v ≡ testedValue count l es
 tied count l es conditions v f h = h ∙ ap (λ (cs : List Bool). valueOf cs es) f ∙ values-stay count l es
 
--- two tests that give each row the same condition
-alike : (n m : ℕ) (l k : List Sensor) (es : List Element) → ((row : ℕ) → testedCondition n l row ≡ testedCondition m k row)
-    → testedValue n l es ≡ testedValue m k es
-unfolding testedValue
-alike n m l k es h = ap orFalse (result-agree (testedCondition n l) (testedCondition m k) es (λ row q. h row))
-
 none-above : (count : ℕ) (l k : List Sensor) (es : List Element) → take count l ≡ take count k → testedValue count l es ≡ testedValue count k es
-none-above count l k es h = alike count count l k es (λ row. go row (ltb row count) refl)
+unfolding testedValue
+none-above count l k es h =
+    ap orFalse (result-agree (testedCondition count l) (testedCondition count k) es (λ row q. go row (ltb row count) refl))
   where
     at : (row : ℕ) → row < count → conditionAt (ownConditions l) row ≡ conditionAt (ownConditions k) row
     at row q =
@@ -75,17 +71,6 @@ none-above count l k es h = alike count count l k es (λ row. go row (ltb row co
     go row true e = at row (ltb-true row count e)
     go row false e = refl
 
-all-below : (count : ℕ) (l : List Sensor) (es : List Element) → length l ≤ count → testedValue count l es ≡ valueOf (ownConditions l) es
-unfolding valueOf testedValue
-all-below count l es h = ap orFalse (result-agree (testedCondition count l) (conditionAt (ownConditions l)) es (λ row q. go row (ltb row count) refl))
-  where
-    past : (row : ℕ) → count ≤ row → length (ownConditions l) ≤ row
-    past row k = omega (arith, length-map l (λ (s : Sensor). s .condition))
-
-    go : (row : ℕ) (t : Bool) → ltb row count ≡ t → cond t (conditionAt (ownConditions l) row) false ≡ conditionAt (ownConditions l) row
-    go row true e = refl
-    go row false e = sym (List·getD-eq-default (ownConditions l) false (past row (ltb-false row count e)))
-
 all-false-above : (count : ℕ) (l : List Sensor) → ((row : ℕ) → count ≤ row → conditionAt (ownConditions l) row ≡ false)
     → conditionsBelow count l ≡ ownConditions l
 unfolding conditionsBelow
@@ -94,6 +79,14 @@ all-false-above zero (s ∷ l) h =
     ap (λ (b : Bool). b ∷ conditionsBelow zero l) (sym (h 0 (omega arith)))
     ∙ ap (λ (m : List Bool). s .condition ∷ m) (all-false-above zero l (λ row k. h (suc row) (omega arith)))
 all-false-above (suc n) (s ∷ l) h = ap (λ (m : List Bool). s .condition ∷ m) (all-false-above n l (λ row k. h (suc row) (omega arith)))
+
+-- past all of them there is nothing that could be TRUE
+all-below : (count : ℕ) (l : List Sensor) (es : List Element) → length l ≤ count → testedValue count l es ≡ valueOf (ownConditions l) es
+all-below count l es h =
+    sym (values-stay count l es) ∙ ap (λ (cs : List Bool). valueOf cs es) (all-false-above count l past)
+  where
+    past : (row : ℕ) → count ≤ row → conditionAt (ownConditions l) row ≡ false
+    past row k = List·getD-eq-default (ownConditions l) false (omega (arith, length-map l (λ (s : Sensor). s .condition)))
 
 pub limit-test : LimitTest
 limit-test = record {
