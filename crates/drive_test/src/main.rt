@@ -191,131 +191,35 @@ fn sensor_set(mask: u64, value: u64) -> SensorColumns {
     }
 }
 
+fn after_set(drive: Drive, index: usize, band: u64, columns: BandColumns, tokens: &[u8]) -> Drive {
+    after(drive, index, Kind::BandSet { band, columns }, tokens)
+}
+
+fn after_sensor_set(drive: Drive, index: usize, sensor: u64, columns: SensorColumns) -> Drive {
+    after(drive, index, Kind::SensorSet { sensor, columns }, b"")
+}
+
 // Unknown mask bits, on a row that is there and on one that is not, and values that the mask does not name.
 fn unknown_bits(drive: Drive) -> Drive {
-    let d = after(
-        drive,
-        0,
-        Kind::BandSet {
-            band: 0,
-            columns: set(64, 0),
-        },
-        b"",
-    );
-    let d = after(
-        d,
-        1,
-        Kind::BandSet {
-            band: 0,
-            columns: set(MOST, 1),
-        },
-        b"\xF0\xF1",
-    );
-    let d = after(
-        d,
-        2,
-        Kind::BandSet {
-            band: 1,
-            columns: set(64, 0),
-        },
-        b"",
-    );
-    let d = after(
-        d,
-        3,
-        Kind::SensorSet {
-            sensor: 0,
-            columns: sensor_set(128, 1),
-        },
-        b"",
-    );
-    let d = after(
-        d,
-        4,
-        Kind::SensorSet {
-            sensor: 1,
-            columns: sensor_set(128, 1),
-        },
-        b"",
-    );
-    let d = after(
-        d,
-        5,
-        Kind::SensorSet {
-            sensor: 0,
-            columns: sensor_set(0, MOST),
-        },
-        b"",
-    );
-    after(
-        d,
-        6,
-        Kind::BandSet {
-            band: 0,
-            columns: set(0, MOST),
-        },
-        b"\xF0",
-    )
+    let d = after_set(drive, 0, 0, set(64, 0), b"");
+    let d = after_set(d, 1, 0, set(MOST, 1), b"\xF0\xF1");
+    let d = after_set(d, 2, 1, set(64, 0), b"");
+    let d = after_sensor_set(d, 3, 0, sensor_set(128, 1));
+    let d = after_sensor_set(d, 4, 1, sensor_set(128, 1));
+    let d = after_sensor_set(d, 5, 0, sensor_set(0, MOST));
+    after_set(d, 6, 0, set(0, MOST), b"\xF0")
 }
 
 // More than 1,024 token bytes, named or not; then as many as there may be.
 fn many_bytes(drive: Drive) -> Drive {
     let more = [0xF0; 1_025];
     let most = [0xF0; 1_024];
-    let d = after(
-        drive,
-        7,
-        Kind::BandSet {
-            band: 0,
-            columns: set(33, 1),
-        },
-        &more,
-    );
-    let d = after(
-        d,
-        8,
-        Kind::BandSet {
-            band: 0,
-            columns: set(1, 1),
-        },
-        &more,
-    );
-    let d = after(
-        d,
-        9,
-        Kind::BandSet {
-            band: 0,
-            columns: set(0, 0),
-        },
-        &more,
-    );
-    let d = after(
-        d,
-        10,
-        Kind::BandSet {
-            band: 1,
-            columns: set(32, 0),
-        },
-        &more,
-    );
-    let d = after(
-        d,
-        11,
-        Kind::BandSet {
-            band: 0,
-            columns: set(37, 1),
-        },
-        &most,
-    );
-    after(
-        d,
-        12,
-        Kind::BandSet {
-            band: 0,
-            columns: set(8, 1),
-        },
-        &most,
-    )
+    let d = after_set(drive, 7, 0, set(33, 1), &more);
+    let d = after_set(d, 8, 0, set(1, 1), &more);
+    let d = after_set(d, 9, 0, set(0, 0), &more);
+    let d = after_set(d, 10, 1, set(32, 0), &more);
+    let d = after_set(d, 11, 0, set(37, 1), &most);
+    after_set(d, 12, 0, set(8, 1), &most)
 }
 
 fn outside_a_script() {
@@ -372,15 +276,7 @@ fn least_drive() {
         },
         b"",
     );
-    let d = after(
-        d,
-        2,
-        Kind::BandSet {
-            band: 0,
-            columns: set(36, 1),
-        },
-        &ALWAYS,
-    );
+    let d = after_set(d, 2, 0, set(36, 1), &ALWAYS);
     let d = after(
         d,
         3,
@@ -418,14 +314,7 @@ fn least_drive() {
 fn guarded(tokens: &[u8]) -> Drive {
     let fresh = Drive::fresh(1_000, 1, 16);
     let drive = fresh.drive;
-    let reply = events::apply(
-        drive,
-        Kind::BandSet {
-            band: 0,
-            columns: set(32, 0),
-        },
-        tokens,
-    );
+    let reply = events::set_band(drive, 0, set(32, 0), tokens);
     let mut made = reply.drive;
     let mut s = Sensor::fresh();
     s.condition = true;
