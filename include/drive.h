@@ -9,8 +9,8 @@
  * no memory that a call writes overlaps other memory that it is given. The functions keep nothing between two calls, and take their memory
  * from the stack, less than a megabyte of it (this is measured and not proved).
  *
- * Every function returns an answer of document 01's table. Where several apply, the lowest number is given, but of 3 and 4 the one that is
- * met first from the left. A refusal, that is any answer but 0, leaves every buffer and every number behind a pointer as it was, with two
+ * Every function returns an answer of document 01's table, or one that a request adds to it. Where several apply, the lowest number is given,
+ * but of 3 and 4 the one that is met first from the left, and 13 right after these. A refusal, that is any answer but 0, leaves every buffer and every number behind a pointer as it was, with two
  * exceptions, which document 01 makes: answer 10 writes the place (to `*place`, or to `*length` where discovery_write gives it), and
  * drive_fresh writes the drive that it hands back.
  */
@@ -38,7 +38,8 @@ enum drive_answer {
     DRIVE_LOCKED = 9,        /* a transfer touches a locked block */
     DRIVE_BAD_SCRIPT = 10,   /* the script cannot be read */
     DRIVE_SHORT_BUFFER = 11, /* an output is shorter than needed */
-    DRIVE_SHORT_ANSWER = 12  /* a discovery answer ends in its header or in a descriptor, or past its bytes */
+    DRIVE_SHORT_ANSWER = 12, /* a discovery answer ends in its header or in a descriptor, or past its bytes */
+    DRIVE_MALFORMED = 13     /* a Set's expression is not empty, and an operator runs short or not exactly one value is left */
 };
 
 /* The kinds of events, for drive_event. */
@@ -111,10 +112,10 @@ uint8_t drive_run(const uint8_t *script, size_t script_len, uint64_t most, uint8
  * read or 1 for a write, a start and a count. A Set has a number for each of its columns, and those that its mask does not name are not looked
  * at; nor are the bytes of `tokens`, save how many they are, where a Set does not name the expression. A field past the end of `fields` is 0.
  *
- * It answers DRIVE_DONE, and leaves `*place`. It answers 1 to 9 for an event that is refused, 2 also for a kind that there is not, and then it
- * writes nothing. On a bad script it answers 1 to 6 where the event gets that number on the fresh drive of the greatest header (2^48 blocks, 16
- * bands, 16 sensors), 2 for a kind that there is not, and writes nothing; every other event gets DRIVE_BAD_SCRIPT, which writes the script's
- * place to `*place` and leaves `*stops`.
+ * It answers DRIVE_DONE, and leaves `*place`. It answers 1 to 9 or DRIVE_MALFORMED for an event that is refused, 2 also for a kind that there is
+ * not, and then it writes nothing. On a bad script it answers 1 to 6 or DRIVE_MALFORMED where the event gets that number on the fresh drive of the
+ * greatest header (2^48 blocks, 16 bands, 16 sensors), 2 for a kind that there is not, and writes nothing; every other event gets
+ * DRIVE_BAD_SCRIPT, which writes the script's place to `*place` and leaves `*stops`.
  */
 uint8_t drive_event(const uint8_t *script, size_t script_len, uint64_t kind, const uint64_t *fields, size_t fields_len,
                     const uint8_t *tokens, size_t tokens_len, uint64_t *stops, size_t *place);

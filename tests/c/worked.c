@@ -54,6 +54,9 @@ static int kept(const uint8_t *bytes, size_t n)
     return 1;
 }
 
+/* The operator AND and nothing else. */
+static const uint8_t AND_ALONE[] = {0xf0, 0xf2, 0xa4, 0x00, 0x00, 0x04, 0x0e, 0x00, 0xf3, 0xf1};
+
 static void listing(void)
 {
     uint8_t out[256];
@@ -89,7 +92,8 @@ static void run(void)
 static void events(void)
 {
     const uint64_t unlock[] = {1, 4, 0, 0, 0, 0, 0}, five[] = {5}, no_type[] = {3}, no_sensor[] = {16, 0};
-    const uint8_t none[] = {0};
+    const uint64_t expression[] = {1, 32}, no_band[] = {16, 32};
+    const uint8_t none[] = {0}, empty[] = {0xf0, 0xf1};
     uint64_t stops = BEFORE;
     size_t place = BEFORE;
     expect(drive_event(SCRIPT, WHOLE, DRIVE_BAND_SET, unlock, 7, none, 0, &stops, &place) == DRIVE_HELD, "the unlock is held");
@@ -97,7 +101,15 @@ static void events(void)
     expect(drive_event(SCRIPT, WHOLE + 1, DRIVE_READING, no_sensor, 2, none, 0, &stops, &place) == DRIVE_NO_ROW, "1 before 10");
     expect(drive_event(SCRIPT, WHOLE + 1, DRIVE_RESET, no_type, 1, none, 0, &stops, &place) == DRIVE_OUT_OF_RANGE, "2 before 10");
     expect(drive_event(SCRIPT, WHOLE + 1, 8, five, 1, none, 0, &stops, &place) == DRIVE_OUT_OF_RANGE, "there is no kind 8");
-    expect(stops == BEFORE && place == BEFORE, "1 and 2 write nothing on a bad script");
+    expect(drive_event(SCRIPT, WHOLE, DRIVE_BAND_SET, expression, 2, AND_ALONE, 10, &stops, &place) == DRIVE_MALFORMED, "AND alone gets 13");
+    expect(drive_event(SCRIPT, WHOLE, DRIVE_BAND_SET, no_band, 2, AND_ALONE, 10, &stops, &place) == DRIVE_NO_ROW, "1 before 13");
+    expect(drive_event(SCRIPT, WHOLE, DRIVE_BAND_SET, expression, 2, AND_ALONE, 9, &stops, &place) == DRIVE_NOT_TOKENS, "cut, it gets 3");
+    expect(drive_event(SCRIPT, WHOLE, DRIVE_BAND_SET, unlock, 7, AND_ALONE, 10, &stops, &place) == DRIVE_HELD, "and 8 where the Set does not name it");
+    expect(drive_event(SCRIPT, WHOLE + 1, DRIVE_BAND_SET, expression, 2, AND_ALONE, 10, &stops, &place) == DRIVE_MALFORMED, "13 before 10");
+    expect(stops == BEFORE && place == BEFORE, "1, 2, 3, 8 and 13 write nothing, on a bad script too");
+    expect(drive_event(SCRIPT, WHOLE, DRIVE_BAND_SET, expression, 2, empty, 2, &stops, &place) == DRIVE_DONE, "the empty expression is stored");
+    expect(stops == 0 && place == BEFORE, "and a Set has no stops");
+    stops = BEFORE;
     expect(drive_event(SCRIPT, WHOLE + 1, DRIVE_ELAPSE, five, 1, none, 0, &stops, &place) == DRIVE_BAD_SCRIPT, "10 on a bad script");
     expect(stops == BEFORE && place == WHOLE, "10 writes the place alone");
     place = BEFORE;
@@ -125,6 +137,8 @@ static void tokens(void)
     expect(tokens_read(SCRIPT + TOKENS_AT, TOKENS - 1, codes, 32, &count) == DRIVE_NOT_TOKENS, "cut tokens get 3");
     expect(tokens_read(SCRIPT + TOKENS_AT, TOKENS, codes, 0, &count) == DRIVE_SHORT_BUFFER, "no room for an element gets 11");
     expect(count == BEFORE && codes[0] == BEFORE, "tokens that are refused write nothing");
+    expect(tokens_read(AND_ALONE, 10, codes, 32, &count) == DRIVE_DONE, "AND alone is read, malformed as it is");
+    expect(count == 1 && codes[0] == DRIVE_AND, "it is one operator");
     expect(tokens_read(SCRIPT + TOKENS_AT, TOKENS, codes, 32, &count) == DRIVE_DONE, "the script's expression is read");
     expect(count == 1 && codes[0] == 0, "it is a reference to row 0");
     count = BEFORE;

@@ -19,12 +19,13 @@ use Rattle.answer.specs.declared.Answer.the-variants.{
   BadScript,
   ShortBuffer,
   ShortAnswer,
+  Malformed,
 }
 
 -- the answers in the order of the table
 abbrev table : List Answer
 table =
-    Done ∷ NoRow ∷ OutOfRange ∷ NotTokens ∷ TooLong ∷ Global ∷ PastEnd ∷ Overlap ∷ Held ∷ Locked ∷ BadScript ∷ ShortBuffer ∷ ShortAnswer ∷ []
+    Done ∷ NoRow ∷ OutOfRange ∷ NotTokens ∷ TooLong ∷ Global ∷ PastEnd ∷ Overlap ∷ Held ∷ Locked ∷ BadScript ∷ ShortBuffer ∷ ShortAnswer ∷ Malformed ∷ []
 
 abbrev answerAt : ℕ → Answer
 answerAt n = getD table n Done
@@ -43,6 +44,7 @@ back Locked = refl
 back BadScript = refl
 back ShortBuffer = refl
 back ShortAnswer = refl
+back Malformed = refl
 
 pub number-injective : (a b : Answer) → numberOf a ≡ numberOf b → a ≡ b
 number-injective a b e = sym (back a) ∙ ap answerAt e ∙ back b

@@ -15,6 +15,7 @@ use Rattle.answer.specs.declared.Answer.the-variants.{
   BadScript,
   ShortBuffer,
   ShortAnswer,
+  Malformed,
 }
 
 abbrev pub numberOf : Answer → ℕ
@@ -44,3 +45,5 @@ numberOf BadScript = 10
 numberOf ShortBuffer = 11
 -- #102: "Turned away: 12 short answer"
 numberOf ShortAnswer = 12
+-- #104: "Turned away: 13 malformed"
+numberOf Malformed = 13

@@ -16,6 +16,7 @@ pub enum Answer {
     BadScript,
     ShortBuffer,
     ShortAnswer,
+    Malformed,
 }
 
 impl Answer {
@@ -37,6 +38,7 @@ impl Answer {
             Answer::BadScript => 10,
             Answer::ShortBuffer => 11,
             Answer::ShortAnswer => 12,
+            Answer::Malformed => 13,
         }
     }
 }

@@ -1,4 +1,4 @@
--- What is refused on the greatest drive with 1 to 6 is refused on every drive: the numbers that apply there apply everywhere.
+-- What is refused on the greatest drive with a number up to 6 or with 13 is refused on every drive: the numbers that apply there apply everywhere.
 use Prim.Native.Nat.{ℕ, _-_, _<_, _≤_}
 use mathlib.Core.Path.{_≡_, refl, sym, ap, _∙_}
 use native.Mathlib.Omega.{arith}
@@ -7,7 +7,7 @@ use mathlib.Core.List.{List, [], _∷_}
 use lib.Dec.{eqb, ltb, leb}
 use borrow.Author.Tests.{lt-ltb, le-leb, ltb-true, leb-true, ne-eqb}
 use Rattle.base.specs.Lists.{any}
-use Rattle.base.specs.Refusals.{Refusal, when, applying}
+use Rattle.base.specs.Refusals.{Refusal, when, applying, orderOf}
 use Rattle.base.specs.Rows.{isRow}
 use Rattle.base.proofs.Cases.{and-yes, and-left, and-right, or-yes, or-second}
 use Rattle.sensor_set.specs.Columns.{sensorRefusals}
@@ -16,12 +16,12 @@ use Rattle.drive.specs.declared.Drive.{Drive}
 use Rattle.drive.specs.State.{mostBlocks, mostBands, mostSensors, headerFits, freshDrive}
 use Rattle.drive.specs.Events.{Event, Shape, ticking, resetting, setting, sensing, placing, looking, shapeOf, refusalsBy, refusals, answerOf}
 use Rattle.drive.proofs.Answers.{lowest-given}
-use Rattle.api.specs.Exports.{refusedAnyway, InRange, LowestAnyway}
+use Rattle.api.specs.Exports.{upToSix, refusedAnyway, InRange, LowestAnyway}
 
--- ---- two lists of refusals with the same numbers: what applies in the first, up to 6, applies in the second
+-- ---- two lists of refusals with the same numbers: what applies in the first and comes no later than 6 applies in the second
 
 abbrev Passes : List Refusal → List Refusal → Type 0
-Passes l m = (n : ℕ) → n ≤ 6 → applying n l ≡ true → applying n m ≡ true
+Passes l m = (n : ℕ) → orderOf n ≤ orderOf 6 → applying n l ≡ true → applying n m ≡ true
 
 module _ (number : ℕ) (a b : Bool) (l m : List Refusal) (more : Passes l m) where
   first : (a ≡ true → b ≡ true) → Passes (when number a ∷ l) (when number b ∷ m)
@@ -33,9 +33,9 @@ module _ (number : ℕ) (a b : Bool) (l m : List Refusal) (more : Passes l m) wh
       go true false f e = or-second b (applying n m) (more n h e)
       go false a f e = more n h e
 
-  later : 6 < number → Passes (when number a ∷ l) (when number b ∷ m)
+  later : orderOf 6 < orderOf number → Passes (when number a ∷ l) (when number b ∷ m)
   unfolding applying any
-  later k n h e = go (eqb number n) (ne-eqb number n (λ q. absurd (omega (arith, q, k, h)))) e
+  later k n h e = go (eqb number n) (ne-eqb number n (λ q. absurd (omega (arith, ap orderOf q, k, h)))) e
     where
       go : (x : Bool) → x ≡ false → ((x && a) || applying n l) ≡ true → ((x && b) || applying n m) ≡ true
       go true z e = absurd (false≢true (sym z))
@@ -98,7 +98,7 @@ module _ (d : Drive) (fits : InRange d) where
   passes (ticking n) = same _
   passes (resetting t) = same _
   passes (setting b c bytes) =
-      first 1 _ _ _ _ (alike 2 _ _ _ (alike 3 _ _ _ (alike 4 _ _ _ (later 8 _ _ [] [] (same []) (omega arith))))) (no-row (d .«band_count») mostBands b few-bands)
+      first 1 _ _ _ _ (alike 2 _ _ _ (alike 3 _ _ _ (alike 4 _ _ _ (alike 13 _ _ _ (later 8 _ _ [] [] (same []) (omega arith)))))) (no-row (d .«band_count») mostBands b few-bands)
   passes (sensing s x) = first 1 _ _ _ _ (same (sensorRefusals x)) (no-row (d .«sensor_count») mostSensors s few-sensors)
   passes (placing b start n) =
       first 1 _ _ _ _
@@ -113,19 +113,19 @@ greatest-fits = refl
 
 module _ (e : Event) where
   -- where a number is told, it is the answer on the greatest drive
-  told-is : 1 ≤ refusedAnyway e → (refusedAnyway e ≡ answerOf greatest e) × (answerOf greatest e ≤ 6)
+  told-is : 1 ≤ refusedAnyway e → (refusedAnyway e ≡ answerOf greatest e) × (orderOf (answerOf greatest e) ≤ orderOf 6)
   unfolding refusedAnyway
-  told-is = go (leb (answerOf greatest e) 6) refl
+  told-is = go (upToSix (answerOf greatest e)) refl
     where
-      go : (b : Bool) → leb (answerOf greatest e) 6 ≡ b → 1 ≤ cond b (answerOf greatest e) 0
-          → (cond b (answerOf greatest e) 0 ≡ answerOf greatest e) × (answerOf greatest e ≤ 6)
-      go true q h = (refl, leb-true (answerOf greatest e) 6 q)
+      go : (b : Bool) → upToSix (answerOf greatest e) ≡ b → 1 ≤ cond b (answerOf greatest e) 0
+          → (cond b (answerOf greatest e) 0 ≡ answerOf greatest e) × (orderOf (answerOf greatest e) ≤ orderOf 6)
+      go true q h = (refl, leb-true (orderOf (answerOf greatest e)) (orderOf 6) q)
       go false q h = absurd (omega (arith, h))
 
-  -- and it is told where that is at most 6
-  is-told : answerOf greatest e ≤ 6 → answerOf greatest e ≡ refusedAnyway e
+  -- and it is told where that comes no later than 6
+  is-told : orderOf (answerOf greatest e) ≤ orderOf 6 → answerOf greatest e ≡ refusedAnyway e
   unfolding refusedAnyway
-  is-told h = ap (λ (b : Bool). cond b (answerOf greatest e) 0) (sym (le-leb (answerOf greatest e) 6 h))
+  is-told h = ap (λ (b : Bool). cond b (answerOf greatest e) 0) (sym (le-leb (orderOf (answerOf greatest e)) (orderOf 6) h))
 
   applies-on : 1 ≤ refusedAnyway e → (d : Drive) → InRange d → applying (refusedAnyway e) (refusals d e) ≡ true
   applies-on h d fits =
@@ -139,5 +139,5 @@ module _ (e : Event) where
     refused = λ h d fits. lowest-given d e .lowest (refusedAnyway e) (applies-on h d fits);
     lowest = λ n h all.
         let g = lowest-given greatest e .lowest n (all greatest greatest-fits) in
-        let t = is-told (omega (arith, h, g .1)) in (omega (arith, t, g .0), omega (arith, t, g .1));
+        let t = is-told (omega (arith, h, g .1)) in (omega (arith, t, g .0), omega (arith, ap orderOf t, g .1));
   }

@@ -9,6 +9,8 @@ use lib.Dec.{eqb, leb}
 use lib.ListN.{length, getD, take, replicate, length-append, length-map, length-replicate, List·getD-eq-default}
 use lib.Seq.{take-append-seam}
 use borrow.Author.Tests.{le-leb, lt-leb, eq-eqb, ne-eqb}
+use Rattle.base.specs.Refusals.{orderOf}
+use Rattle.base.proofs.Refusals.{own-place}
 use Rattle.base.specs.Lists.{oneIf}
 use Rattle.base.specs.Spliced.{over}
 use Rattle.answer.specs.Numbers.{numberOf}
@@ -59,6 +61,7 @@ use Rattle.api.specs.Exports.{
   kindOf,
   EventTold,
   answered,
+  upToSix,
   refusedAnyway,
   refusedEvent,
   eventOn,
@@ -302,23 +305,26 @@ module _ (script : Script) (kind : ℕ) (fields tokens : List ℕ) (stops place 
   some-kind event t k h e w =
       rw (le-leb 1 kind k, le-leb kind lastKind h) (w ∙ ap (λ (x : Kind). eventOn script (eventOf x tokens) stops place) e)
 
--- the number that an event gets whatever the script is: its answer on the greatest drive, where that is at most 6
+-- the number that an event gets whatever the script is: its answer on the greatest drive, where that comes no later than 6
 module _ (e : Event) (made : Fresh) (reply : Reply) (number : ℕ) (f : Freshens mostBlocks mostBands mostSensors made) (h : Replies (made .drive) e reply)
     (k : number ≡ numberOf (reply .answer)) where
   greatest : made .drive ≡ freshDrive mostBlocks mostBands mostSensors
   unfolding headerFits
   greatest = f .drive
 
-  anyway-by : (b : Bool) → leb number 6 ≡ b → cond b number 0 ≡ refusedAnyway e
+  anyway-by : (b : Bool) → upToSix number ≡ b → cond b number 0 ≡ refusedAnyway e
   unfolding refusedAnyway
   anyway-by b q =
-      ap (λ (x : Bool). cond x number 0) (sym q) ∙ ap (λ (n : ℕ). cond (leb n 6) n 0) (k ∙ h .answer ∙ ap (λ (d : Drive). answerOf d e) greatest)
+      ap (λ (x : Bool). cond x number 0) (sym q) ∙ ap (λ (n : ℕ). cond (upToSix n) n 0) (k ∙ h .answer ∙ ap (λ (d : Drive). answerOf d e) greatest)
 
-  pub not-anyway : (last : ℕ) → 6 ≤ last → last < number → 0 ≡ refusedAnyway e
-  not-anyway last l g = anyway-by false (lt-leb number 6 (omega (arith, l, g)))
+  pub anyway-malformed : number ≡ 13 → number ≡ refusedAnyway e
+  anyway-malformed g = anyway-by true (ap upToSix g)
 
-  pub anyway : number ≤ 6 → number ≡ refusedAnyway e
-  anyway g = anyway-by true (le-leb number 6 g)
+  pub not-anyway : number ≢ 13 → 6 < number → 0 ≡ refusedAnyway e
+  not-anyway z g = anyway-by false (lt-leb (orderOf number) 12 (omega (arith, g, own-place number z)))
+
+  pub anyway : number ≢ 13 → number ≤ 6 → number ≡ refusedAnyway e
+  anyway z g = anyway-by true (le-leb (orderOf number) 12 (omega (arith, g, own-place number z)))
 
 -- an event on a script that is refused
 module _ (e : Event) (answer at own place : ℕ) (h : own ≡ refusedAnyway e) where

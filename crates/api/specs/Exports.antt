@@ -2,12 +2,12 @@
 -- there before.
 use Prim.Native.Nat.{ℕ, _≤_}
 use mathlib.Core.Path.{_≡_}
-use mathlib.Core.Bool.{true, cond, _&&_}
+use mathlib.Core.Bool.{Bool, true, cond, _&&_}
 use mathlib.Core.List.{List}
 use lib.Dec.{eqb, leb}
 use lib.ListN.{length, getD, take}
 use Rattle.base.specs.Lists.{oneIf}
-use Rattle.base.specs.Refusals.{applying}
+use Rattle.base.specs.Refusals.{applying, orderOf}
 use Rattle.output.specs.Filling.{Told, told, toldBy, filledBy}
 use Rattle.sensor_set.specs.declared.SensorColumns.{SensorColumns}
 use Rattle.token_reader.specs.Format.{bytesOf}
@@ -112,22 +112,27 @@ kindOf kind fields =
 pub data EventTold : Type 0 where
   answered : (answer stops place : ℕ) → EventTold
 
--- "The lowest number that applies is given", also where the script is bad and no drive is left: the number from 1 to 6 that the event gets
--- on the fresh drive of the greatest header, 0 if there is none. 7, 8 and 9 speak of bands that a run has placed and locked.
+-- no later than 6: 1 to 6, and 13, which comes "right after 3 and 4". 7, 8 and 9 speak of bands that a run has placed and locked.
+abbrev pub upToSix : ℕ → Bool
+upToSix n = leb (orderOf n) (orderOf 6)
+
+-- "The lowest number that applies is given", also where the script is bad and no drive is left: the one of these that the event gets on the fresh
+-- drive of the greatest header, 0 if there is none
 unfoldable pub refusedAnyway : Event → ℕ
-refusedAnyway e = let n = answerOf (freshDrive mostBlocks mostBands mostSensors) e in cond (leb n 6) n 0
+refusedAnyway e = let n = answerOf (freshDrive mostBlocks mostBands mostSensors) e in cond (upToSix n) n 0
 
 abbrev pub InRange : Drive → Type 0
 InRange d = headerFits (d .capacity) (d .«band_count») (d .«sensor_count») ≡ true
 
--- This is the lowest number from 1 to 6 that applies whatever the drive (theorem `lowest-anyway` in proofs/Anyway).
+-- This is the lowest number of these that applies whatever the drive, 13 in its place (theorem `lowest-anyway` in proofs/Anyway).
 pub record LowestAnyway (e : Event) : Type 0 where
   -- it applies on every drive
   pub applies : 1 ≤ refusedAnyway e → (d : Drive) → InRange d → applying (refusedAnyway e) (refusals d e) ≡ true
-  -- so the event is refused on every drive, with this number or a lower one
-  pub refused : 1 ≤ refusedAnyway e → (d : Drive) → InRange d → (1 ≤ answerOf d e) × (answerOf d e ≤ refusedAnyway e)
-  -- and where a number from 1 to 6 applies on every drive, this one is no greater, and not 0
-  pub lowest : (n : ℕ) → n ≤ 6 → ((d : Drive) → InRange d → applying n (refusals d e) ≡ true) → (1 ≤ refusedAnyway e) × (refusedAnyway e ≤ n)
+  -- so the event is refused on every drive, with this number or one that comes before it
+  pub refused : 1 ≤ refusedAnyway e → (d : Drive) → InRange d → (1 ≤ answerOf d e) × (orderOf (answerOf d e) ≤ orderOf (refusedAnyway e))
+  -- and where one of these numbers applies on every drive, this one comes no later, and is not 0
+  pub lowest : (n : ℕ) → orderOf n ≤ orderOf 6 → ((d : Drive) → InRange d → applying n (refusals d e) ≡ true)
+      → (1 ≤ refusedAnyway e) × (orderOf (refusedAnyway e) ≤ orderOf n)
 
 -- that number; or, if there is none, the script's answer and its place
 abbrev pub refusedEvent : (answer at : ℕ) → Event → (stops place : ℕ) → EventTold

@@ -39,12 +39,14 @@ use drive::Drive;
 use drive::Kind;
 use sensor_set::SensorColumns;
 
-// Answers of document 01's table that the calls give or look for themselves.
+// Answers that the calls give or look for themselves.
 const OUT_OF_RANGE: u8 = 2;
 
 const PAST_END: u8 = 6;
 
 const BAD_SCRIPT: u8 = 10;
+
+const MALFORMED: u8 = 13;
 
 const SHORT_BUFFER: u8 = 11;
 
@@ -269,6 +271,9 @@ fn refused_anyway(kind: Kind, tokens: &[u8]) -> u8
     let reply = events::apply(drive, kind, tokens);
     let answer = reply.answer;
     let number = answer.number();
+    if number == MALFORMED {
+        return number;
+    }
     if PAST_END < number {
         return 0;
     }

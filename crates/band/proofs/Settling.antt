@@ -5,6 +5,8 @@ use native.Mathlib.Omega.{arith}
 use mathlib.Core.Bool.{Bool, true, false, not, cond, _&&_, _||_, false≢true}
 use mathlib.Core.List.{List}
 use Rattle.base.proofs.Cases.{cond-true, neither}
+use Rattle.evaluator.specs.declared.Evaluation.{Evaluation}
+use Rattle.evaluator.specs.Value.{isTrue}
 use Rattle.band.specs.declared.Side.{Side}
 use Rattle.band.specs.declared.Side.the-variants.{Read, Write}
 use Rattle.band.specs.declared.Row.{Row}
@@ -13,9 +15,10 @@ use Rattle.band.specs.Parts.{lockableOn, isLockable, locksBy}
 
 -- ---- what the code's arms come to
 
-pub settled : (cs : List Bool) (row r : Row) (v : Bool) → v ≡ valueIn cs row → r ≡ lockUnder v row → r ≡ settleRow cs row
+pub settled : (cs : List Bool) (row r : Row) (v : Evaluation) (t : Bool) → v ≡ valueIn cs row → t ≡ isTrue v → r ≡ lockUnder t row
+    → r ≡ settleRow cs row
 unfolding settleRow
-settled cs row r v e q = q ∙ ap (λ (x : Bool). lockUnder x row) e
+settled cs row r v t e p q = q ∙ ap (λ (x : Bool). lockUnder x row) (p ∙ ap isTrue e)
 
 -- a side that is not lockable stays as it is
 steady : (locked enabled v : Bool) → (enabled && not locked) ≡ false → locked ≡ (locked || (enabled && v))
@@ -33,7 +36,7 @@ steady-row v row e =
 
 pub not-lockable : (cs : List Bool) (row : Row) (t : Bool) → t ≡ isLockable row → t ≡ false → row ≡ settleRow cs row
 unfolding settleRow
-not-lockable cs row t p e = steady-row (valueIn cs row) row (sym p ∙ e)
+not-lockable cs row t p e = steady-row (isTrue (valueIn cs row)) row (sym p ∙ e)
 
 pub reset-locks : (type : ℕ) (row r : Row) (t : Bool) → t ≡ inSet (row .«lock_on_reset») type → t ≡ true → r ≡ lockUnder true row
     → r ≡ resetRow type row
@@ -59,8 +62,9 @@ closed-write row side t e q = q ∙ ap (λ (s : Side). closedOn s row) (sym e)
 pub set-locks : (set type : ℕ) (v t : Bool) → t ≡ inSet set type → t ≡ true → true ≡ (inSet set type || v)
 set-locks set type v t p e = ap (λ (x : Bool). x || v) (sym (sym p ∙ e))
 
-pub value-locks : (set type : ℕ) (v w t : Bool) → t ≡ inSet set type → t ≡ false → w ≡ v → w ≡ (inSet set type || v)
-value-locks set type v w t p e q = q ∙ ap (λ (x : Bool). x || v) (sym (sym p ∙ e))
+pub value-locks : (set type : ℕ) (v w : Evaluation) (u t : Bool) → t ≡ inSet set type → t ≡ false → w ≡ v → u ≡ isTrue w
+    → u ≡ (inSet set type || isTrue v)
+value-locks set type v w u t p e q k = k ∙ ap isTrue q ∙ ap (λ (x : Bool). x || isTrue v) (sym (sym p ∙ e))
 
 -- ---- laws for the layers above
 
@@ -74,11 +78,11 @@ reset-settle cs type row = go (inSet (row .«lock_on_reset») type)
     once false true v = refl
     once false false v = refl
 
-    go : (b : Bool) → lockUnder (valueIn cs (cond b (lockUnder true row) row)) (cond b (lockUnder true row) row) ≡ lockUnder (b || valueIn cs row) row
+    go : (b : Bool) → lockUnder (isTrue (valueIn cs (cond b (lockUnder true row) row))) (cond b (lockUnder true row) row) ≡ lockUnder (b || isTrue (valueIn cs row)) row
     go true =
         ap₂ (λ (a b : Bool). withLocked a b row)
-        (once (row .«read_locked») (row .«read_lock_enabled») (valueIn cs row))
-        (once (row .«write_locked») (row .«write_lock_enabled») (valueIn cs row))
+        (once (row .«read_locked») (row .«read_lock_enabled») (isTrue (valueIn cs row)))
+        (once (row .«write_locked») (row .«write_lock_enabled») (isTrue (valueIn cs row)))
     go false = refl
 
 -- a row with no lockable side is reset to itself
@@ -101,8 +105,8 @@ pub settle-again : (cs : List Bool) (row : Row) → settleRow cs (settleRow cs r
 unfolding settleRow
 settle-again cs row =
     ap₂ (λ (a b : Bool). withLocked a b row)
-    (lock-again (row .«read_locked») (row .«read_lock_enabled») (valueIn cs row))
-    (lock-again (row .«write_locked») (row .«write_lock_enabled») (valueIn cs row))
+    (lock-again (row .«read_locked») (row .«read_lock_enabled») (isTrue (valueIn cs row)))
+    (lock-again (row .«write_locked») (row .«write_lock_enabled») (isTrue (valueIn cs row)))
 
 -- a fresh row settles and is reset to itself
 pub fresh-settles : (cs : List Bool) → settleRow cs freshRow ≡ freshRow

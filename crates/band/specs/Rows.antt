@@ -4,7 +4,8 @@ use mathlib.Core.Bool.{Bool, true, false, cond, _&&_, _||_}
 use mathlib.Core.List.{List, []}
 use Rattle.base.specs.Columns.{named}
 use Rattle.expression.specs.Elements.{elementsIn, expressionOf}
-use Rattle.evaluator.specs.Value.{valueOf}
+use Rattle.evaluator.specs.declared.Evaluation.{Evaluation}
+use Rattle.evaluator.specs.Value.{valueOf, isTrue}
 use Rattle.band.specs.declared.Side.{Side}
 use Rattle.band.specs.declared.Side.the-variants.{Read, Write}
 use Rattle.band.specs.declared.Row.{Row}
@@ -33,8 +34,8 @@ lockedOn Write row = row .«write_locked»
 abbrev pub closedOn : Side → Row → Bool
 closedOn side row = enabledOn side row && lockedOn side row
 
--- the value of the row's expression under the sensors' conditions
-abbrev pub valueIn : List Bool → Row → Bool
+-- the value of the row's expression under the sensors' conditions: TRUE, FALSE or malformed
+abbrev pub valueIn : List Bool → Row → Evaluation
 valueIn conditions row = valueOf conditions (elementsIn (row .expression))
 
 -- the same row with other Locked columns
@@ -48,7 +49,7 @@ withLocked read write row = record {
   expression = row .expression;
 }
 
--- "a side that is enabled, under a TRUE expression, becomes locked"; v is that value. Slip three: under TRUE, not under FALSE.
+-- "a side that is enabled, under a TRUE expression, becomes locked"; v is whether it is TRUE. Slip three: under TRUE, not under FALSE.
 abbrev pub lockedUnder : Bool → Side → Row → Bool
 lockedUnder v side row = lockedOn side row || (enabledOn side row && v)
 
@@ -57,7 +58,7 @@ lockUnder v row = withLocked (lockedUnder v Read row) (lockedUnder v Write row) 
 
 -- settling, document 01's word for what happens to a row after every event and tick
 unfoldable pub settleRow : List Bool → Row → Row
-settleRow conditions row = lockUnder (valueIn conditions row) row
+settleRow conditions row = lockUnder (isTrue (valueIn conditions row)) row
 
 -- "LockOnReset (a set as bits: 1 power cycle, 2 hardware, 4 hot plug ..)"; "Reset types: 0 power cycle, 1 hardware, 2 hot plug."
 abbrev pub lastResetType : ℕ

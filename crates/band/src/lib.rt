@@ -3,6 +3,7 @@ ghost use mathlib.Core.Path.{_≡_};
 ghost use mathlib.Core.Bool.{true, not};
 ghost use Rattle.band.specs.Rows.{freshRow, closedOn, valueIn, withLocked, lockUnder, settleRow, inSet, resetRow};
 ghost use Rattle.band.specs.Parts.{isLockable, locksBy};
+use evaluator::Evaluation;
 use expression::Expression;
 
 // A side of a row: what its two lock columns guard.
@@ -56,7 +57,7 @@ impl Row {
     }
 
     // The value of the row's expression.
-    pub fn value(self, conditions: [bool; 16]) -> bool
+    pub fn value(self, conditions: [bool; 16]) -> Evaluation
         ensures { λ r. ⌜ r ≡ valueIn conditions self ⌝ }
     {
         let expression = self.expression;
@@ -96,7 +97,8 @@ impl Row {
         if in_set(self.lock_on_reset, reset_type) {
             return true;
         }
-        self.value(conditions)
+        let value = self.value(conditions);
+        value.is_true()
     }
 
     // The row with each enabled side locked.
@@ -112,7 +114,7 @@ impl Row {
     {
         if self.lockable() {
             let v = self.value(conditions);
-            return self.lock_under(v);
+            return self.lock_under(v.is_true());
         }
         self
     }

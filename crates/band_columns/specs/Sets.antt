@@ -4,6 +4,8 @@ use mathlib.Core.Bool.{Bool, cond, _&&_, _||_}
 use lib.Dec.{eqb, ltb}
 use Rattle.base.specs.Columns.{named, within}
 use Rattle.expression.specs.declared.Expression.{Expression}
+use Rattle.evaluator.specs.declared.Evaluation.{Evaluation}
+use Rattle.evaluator.specs.Value.{isTrue}
 use Rattle.band.specs.declared.Side.{Side}
 use Rattle.band.specs.declared.Side.the-variants.{Read, Write}
 use Rattle.band.specs.declared.Row.{Row}
@@ -52,8 +54,8 @@ namesLocked side v c = lockedNamed side c && eqb (lockedValue side c) v
 
 -- "if it names a side's Locked as 0, and the new row has that side enabled and its expression's value .. is TRUE, it is refused (8)";
 -- held is document 01's word for it
-abbrev pub heldOn : Side → BandColumns → Row → Bool → Bool
-heldOn side c new v = namesLocked side 0 c && (enabledOn side new && v)
+abbrev pub heldOn : Side → BandColumns → Row → Evaluation → Bool
+heldOn side c new v = namesLocked side 0 c && (enabledOn side new && isTrue v)
 
-abbrev pub heldBy : BandColumns → Row → Bool → Bool
+abbrev pub heldBy : BandColumns → Row → Evaluation → Bool
 heldBy c new v = heldOn Read c new v || heldOn Write c new v

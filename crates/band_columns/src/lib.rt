@@ -5,6 +5,7 @@ ghost use lib.Dec.{eqb};
 ghost use Rattle.base.specs.Columns.{named};
 ghost use Rattle.band_columns.specs.Sets.{columnsFit, formedRow, heldBy};
 use band::Row;
+use evaluator::Evaluation;
 use expression::Expression;
 
 // What a Set carries beside the expression. A column is named by its bit in the mask: 1 ReadLockEnabled, 2 WriteLockEnabled,
@@ -73,16 +74,17 @@ pub fn form(row: Row, columns: BandColumns, expression: Expression) -> Row
 }
 
 // Whether the Set that formed a row is an unlock under a TRUE expression, whose value is given.
-pub fn held(row: Row, columns: BandColumns, v: bool) -> bool
+pub fn held(row: Row, columns: BandColumns, v: Evaluation) -> bool
     ensures { λ r. ⌜ r ≡ heldBy columns row v ⌝ }
 {
+    let locks = v.is_true();
     let read = base::and(
         names_zero(columns.mask, 4, columns.read_locked),
-        base::and(row.read_lock_enabled, v),
+        base::and(row.read_lock_enabled, locks),
     );
     let write = base::and(
         names_zero(columns.mask, 8, columns.write_locked),
-        base::and(row.write_lock_enabled, v),
+        base::and(row.write_lock_enabled, locks),
     );
     base::or(read, write)
 }

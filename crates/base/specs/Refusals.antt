@@ -1,5 +1,5 @@
 -- Document 01, 'The drive and its refusals': what an event or a call is refused for, as a list in the order in which it is given.
-use Prim.Native.Nat.{ℕ, _≤_}
+use Prim.Native.Nat.{ℕ, _*_, _≤_, _<_}
 use mathlib.Core.Path.{_≡_}
 use mathlib.Core.Bool.{Bool, true, cond, _&&_}
 use mathlib.Core.List.{List, [], _∷_}
@@ -23,7 +23,19 @@ firstOf (r ∷ l) = cond (r .applies) (r .number) (firstOf l)
 unfoldable pub applying : ℕ → List Refusal → Bool
 applying n l = any (λ r. eqb (r .number) n && r .applies) l
 
--- "The lowest number that applies is given": where a number applies, the answer is no greater and not 0; and an answer that is not 0 applies
+-- Which number comes before which: the lower one. Document 02, #104: "13 malformed, right after 3 and 4 and before 8": its place is between those of
+-- 4 and 5, which are 8 and 10.
+abbrev pub orderOf : ℕ → ℕ
+orderOf n = cond (eqb n 13) 9 (n * 2)
+
+-- The order is that one, and of the other numbers the usual one (theorem `order` in proofs/Refusals).
+pub record Order : Type 0 where
+  pub after-4 : orderOf 4 < orderOf 13
+  pub before-5 : orderOf 13 < orderOf 5
+  pub others : (m n : ℕ) → (m ≡ 13 → ⊥) → (n ≡ 13 → ⊥) → m < n → orderOf m < orderOf n
+
+-- "The lowest number that applies is given", 13 in its place: where a number applies, the answer comes no later and is not 0; and an answer that
+-- is not 0 applies
 pub record LowestOf (l : List Refusal) (answer : ℕ) : Type 0 where
-  pub lowest : (n : ℕ) → applying n l ≡ true → (1 ≤ answer) × (answer ≤ n)
+  pub lowest : (n : ℕ) → applying n l ≡ true → (1 ≤ answer) × (orderOf answer ≤ orderOf n)
   pub given : 1 ≤ answer → applying answer l ≡ true

@@ -24,7 +24,7 @@ use Rattle.sensors.specs.Sixteen.{conditionsBelow}
 use Rattle.sensors.proofs.Gather.{condition-below, condition-past}
 use Rattle.expression.specs.declared.Element.{Element}
 use Rattle.expression.specs.Elements.{elementsIn}
-use Rattle.evaluator.specs.Value.{valueOf, mentions}
+use Rattle.evaluator.specs.Value.{valueOf, isTrue, mentions}
 use Rattle.evaluator.proofs.Mentions.{value-same}
 use Rattle.token_reader.specs.Read.{TokenOutcome, elements, refusal, readTokens, expressionIn}
 use Rattle.band.specs.declared.Row.{Row}
@@ -126,7 +126,7 @@ module _ (B N : ℕ → Bool) where
     sensorCount = p .sensorCount;
     rowsLong = length-map (d .rows) _ ∙ p .rowsLong ∙ sym (length-map (e .rows) _);
     sensorsLong = p .sensorsLong;
-    band = λ b t. settle-at d b ∙ ap₂ lockUnder (band-value p b t) (p .band b t) ∙ sym (settle-at e b);
+    band = λ b t. settle-at d b ∙ ap₂ lockUnder (ap isTrue (band-value p b t)) (p .band b t) ∙ sym (settle-at e b);
     sensor = p .sensor;
     within = λ b t r u. p .within b t r (rw (settle-at d b) at u);
   }

@@ -5,6 +5,7 @@ use mathlib.Core.Bool.{Bool, true, false, cond, _||_, false≢true}
 use mathlib.Core.List.{List, [], _∷_, _++_}
 use Rattle.base.specs.Lists.{any}
 use Rattle.base.specs.Ticks.{ticks}
+use Rattle.evaluator.specs.declared.Evaluation.the-variants.{False}
 use Rattle.evaluator.proofs.Mentions.{value-empty}
 use Rattle.band.specs.Rows.{freshRow, valueIn, settleRow, resetRow}
 use Rattle.band.proofs.Settling.{fresh-settles, fresh-reset}
@@ -90,7 +91,7 @@ module _ (capacity bands sensors band : ℕ) (es : List Event) (a : All isTime (
       kept-alone capacity bands sensors band es .row
       ∙ run-fresh band (compared band es) (freshDrive capacity bands sensors) a (fresh-at capacity bands sensors band)
 
-  only-time-value : valueAt after band ≡ false
+  only-time-value : valueAt after band ≡ False
   unfolding freshRow
   only-time-value = ap (valueIn (conditionsOf after)) only-time-row ∙ value-empty (conditionsOf after)
 

@@ -4,6 +4,7 @@ use mathlib.Core.Path.{_≡_, refl}
 use mathlib.Core.Bool.{Bool, true, false}
 use mathlib.Core.List.{List, [], _∷_}
 use Rattle.evaluator.specs.Value.{evaluate, valueOf, mentions}
+use Rattle.evaluator.specs.Formed.{countFrom}
 use Rattle.band.specs.declared.Side.{Side}
 use Rattle.band.specs.declared.Side.the-variants.{Read, Write}
 use Rattle.band.specs.Rows.{lockedOn}
@@ -41,6 +42,14 @@ bandOn band mask v onReset bytes =
 -- row 0, and row 0 AND NOT row 1
 abbrev rowZero : List ℕ
 rowZero = 0xF0 ∷ 0xF2 ∷ 0xA4 ∷ 0 ∷ 0 ∷ 0x0C ∷ 0x0E ∷ 0xA4 ∷ 0 ∷ 0 ∷ 0 ∷ 0 ∷ 0xF3 ∷ 0xF1 ∷ []
+
+-- row 0 and AND, which runs short
+abbrev zeroAnd : List ℕ
+zeroAnd =
+    0xF0
+    ∷ 0xF2 ∷ 0xA4 ∷ 0 ∷ 0 ∷ 0x0C ∷ 0x0E ∷ 0xA4 ∷ 0 ∷ 0 ∷ 0 ∷ 0 ∷ 0xF3
+    ∷ 0xF2 ∷ 0xA4 ∷ 0 ∷ 0 ∷ 0x04 ∷ 0x0E ∷ 0 ∷ 0xF3
+    ∷ 0xF1 ∷ []
 
 abbrev zeroNotOne : List ℕ
 zeroNotOne =
@@ -119,14 +128,16 @@ record Worked : Type 0 where
   -- a granted unlock counts, and a refused one does not
   unlocked : told Read 0 (lockRead ∷ unlockRead ∷ []) ≡ (false, false)
   refused : told Read 0 (lockRead ∷ badUnlock ∷ []) ≡ (true, true)
-  -- a refused Set names what its expression refers to; a Set that does not name the expression names nothing, and so does one whose bytes
+  -- a refused Set names what its expression refers to, one that is refused as malformed too; a Set that does not name the expression names nothing, and so does one whose bytes
   -- are no tokens
   refused-names : compared 1 (bandOn 1 48 0 256 rowZero ∷ reading 0 7 ∷ []) ≡ bandOn 1 48 0 256 rowZero ∷ reading 0 7 ∷ []
+  malformed-refused : answersTo 1 fresh (bandOn 1 32 0 0 zeroAnd ∷ []) ≡ 13 ∷ []
+  malformed-names : compared 1 (bandOn 1 32 0 0 zeroAnd ∷ reading 0 7 ∷ []) ≡ bandOn 1 32 0 0 zeroAnd ∷ reading 0 7 ∷ []
   unnamed : compared 1 (bandOn 1 16 0 7 rowZero ∷ reading 0 7 ∷ []) ≡ bandOn 1 16 0 7 rowZero ∷ []
   no-tokens : compared 1 (bandOn 1 32 0 0 (0 ∷ rowZero) ∷ reading 0 7 ∷ []) ≡ bandOn 1 32 0 0 (0 ∷ rowZero) ∷ []
 
 worked : Worked
-unfolding drive-rules evaluate valueOf mentions tickMoments moments unlocks locks refersIn namedIn stays keep compared answersTo flagAfter
+unfolding drive-rules evaluate countFrom valueOf mentions tickMoments moments unlocks locks refersIn namedIn stays keep compared answersTo flagAfter
 worked = record {
   script-list = refl;
   script-answers = refl;
@@ -144,6 +155,8 @@ worked = record {
   unlocked = refl;
   refused = refl;
   refused-names = refl;
+  malformed-refused = refl;
+  malformed-names = refl;
   unnamed = refl;
   no-tokens = refl;
 }

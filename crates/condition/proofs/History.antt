@@ -16,6 +16,7 @@ use Rattle.base.proofs.Cases.{neither}
 use Rattle.base.proofs.Refusals.{appliesAt}
 use Rattle.base.proofs.Rows.{modify-same, modify-other}
 use Rattle.token_reader.specs.Read.{mostTokenBytes}
+use Rattle.evaluator.specs.Value.{isTrue}
 use Rattle.band.specs.declared.Side.{Side}
 use Rattle.band.specs.declared.Side.the-variants.{Read, Write}
 use Rattle.band.specs.declared.Row.{Row}
@@ -51,7 +52,7 @@ module _ (side : Side) (band : ℕ) where
   flag d = lockedOn side (rowAt d band)
 
   holds : Drive → Bool
-  holds d = enabledOn side (rowAt d band) && valueAt d band
+  holds d = enabledOn side (rowAt d band) && isTrue (valueAt d band)
 
   along : Bool → List Moment → Bool
   along l ms = flagAfter (unlocks side band) (locks side band) l ms
@@ -67,11 +68,11 @@ module _ (side : Side) (band : ℕ) where
   -- settling marks it where the side is enabled and the expression TRUE
   settled-flag : (d : Drive) → flag (settleOf d) ≡ (flag d || holds (settleOf d))
   unfolding flag holds settleOf settleRow conditionsOf
-  settled-flag d = rw (settle-at d band, lock-enabled side (valueAt d band) (rowAt d band)) (lock-column side (valueAt d band) (rowAt d band))
+  settled-flag d = rw (settle-at d band, lock-enabled side (isTrue (valueAt d band)) (rowAt d band)) (lock-column side (isTrue (valueAt d band)) (rowAt d band))
 
   settled-already : (d : Drive) → Settled band d → (flag d || holds d) ≡ flag d
   unfolding flag holds settleRow
-  settled-already d z = sym (lock-column side (valueAt d band) (rowAt d band)) ∙ ap (lockedOn side) z
+  settled-already d z = sym (lock-column side (isTrue (valueAt d band)) (rowAt d band)) ∙ ap (lockedOn side) z
 
   ticks-flag : (n : ℕ) (d : Drive) → along (flag d) (tickMoments n d) ≡ flag (ticks tickOf n d)
   unfolding along flagAfter tickMoments ticks unlocks locks tickOf flag holds

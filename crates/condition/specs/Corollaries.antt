@@ -4,6 +4,7 @@ use Prim.Native.Nat.{ℕ}
 use mathlib.Core.Path.{_≡_}
 use mathlib.Core.Bool.{true, false}
 use mathlib.Core.List.{List, [], _∷_, _++_}
+use Rattle.evaluator.specs.declared.Evaluation.the-variants.{False}
 use Rattle.band.specs.Rows.{freshRow}
 use Rattle.drive.specs.State.{freshDrive, rowAt, valueAt}
 use Rattle.drive.specs.Events.{Event, runOf}
@@ -31,4 +32,4 @@ pub record Corollaries : Type 0 where
   pub only-time-row : (capacity bands sensors band : ℕ) (es : List Event) → All isTime (compared band es)
       → rowAt (runOf (freshDrive capacity bands sensors) es) band ≡ freshRow
   pub only-time-value : (capacity bands sensors band : ℕ) (es : List Event) → All isTime (compared band es)
-      → valueAt (runOf (freshDrive capacity bands sensors) es) band ≡ false
+      → valueAt (runOf (freshDrive capacity bands sensors) es) band ≡ False

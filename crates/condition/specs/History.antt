@@ -5,6 +5,7 @@ use mathlib.Core.Bool.{Bool, true, false, cond, _&&_, _||_}
 use mathlib.Core.List.{List, [], _∷_, _++_}
 use lib.Dec.{eqb}
 use Rattle.base.specs.Lists.{any}
+use Rattle.evaluator.specs.Value.{isTrue}
 use Rattle.band.specs.declared.Side.{Side}
 use Rattle.band_columns.specs.declared.BandColumns.{BandColumns}
 use Rattle.band.specs.Rows.{enabledOn, inSet}
@@ -73,7 +74,7 @@ resetOn side band m =
 
 -- "at some moment the side was enabled and the expression TRUE"
 abbrev pub trueOn : Side → ℕ → Moment → Bool
-trueOn side band m = enabledOn side (rowAt (m .after) band) && valueAt (m .after) band
+trueOn side band m = enabledOn side (rowAt (m .after) band) && isTrue (valueAt (m .after) band)
 
 unfoldable pub unlocks : Side → ℕ → Moment → Bool
 unlocks side band m = setTo 0 side band m

@@ -10,7 +10,7 @@ use Rattle.base.specs.Refusals.{firstOf}
 use Rattle.base.specs.Rows.{isRow}
 use Rattle.base.specs.Ticks.{mostTicks}
 use Rattle.base.proofs.Cases.{cond-true, cond-false}
-use Rattle.base.proofs.Refusals.{appliesAt, numbersBelow, risingFrom, none-applies, first-below, rising-lowest}
+use Rattle.base.proofs.Refusals.{appliesAt, numbersBelow, pastEvents, risingFrom, none-applies, first-below, rising-lowest}
 use Rattle.sensor_set.specs.declared.SensorEvent.{SensorEvent}
 use Rattle.sensor_set.specs.Columns.{sensorRefusals, sensorAnswer}
 use Rattle.sensor_set.proofs.Refused.{sensor-numbers, sensor-rises}
@@ -23,11 +23,11 @@ use Rattle.drive.specs.State.{conditionsOf, rowAt, settleOf}
 use Rattle.drive.specs.Events.{Event, elapse, reset, bandSet, geometry, transfer, Shape, ticking, resetting, setting, sensing, placing, looking, shapeOf}
 use Rattle.drive.specs.Events.{rowRefusals, sideOf, noRow, refusalsBy, refusals, answerOf, LowestGiven, actOf, stepOf, elapsedStops, stopsOf}
 
--- the numbers that events can get: 1 to 9
-event-numbers : (d : Drive) (e : Event) → numbersBelow 10 (refusals d e) ≡ true
+-- the numbers that events can get
+event-numbers : (d : Drive) (e : Event) → numbersBelow pastEvents (refusals d e) ≡ true
 event-numbers d e = go (shapeOf e)
   where
-    go : (x : Shape) → numbersBelow 10 (refusalsBy d x) ≡ true
+    go : (x : Shape) → numbersBelow pastEvents (refusalsBy d x) ≡ true
     go (ticking n) = refl
     go (resetting t) = refl
     go (setting b c bytes) = refl
@@ -38,13 +38,13 @@ event-numbers d e = go (shapeOf e)
 -- of an event that is answered 0 nothing applies
 pub granted-free : (d : Drive) (e : Event) → answerOf d e ≡ 0 → (i : ℕ) → appliesAt (refusals d e) i ≡ false
 unfolding answerOf
-granted-free d e q = none-applies 10 (refusals d e) (event-numbers d e) q
+granted-free d e q = none-applies pastEvents (refusals d e) (event-numbers d e) q
 
-pub answer-below : (d : Drive) (e : Event) → answerOf d e < 10
+pub answer-below : (d : Drive) (e : Event) → answerOf d e < pastEvents
 unfolding answerOf
-answer-below d e = first-below 10 (refusals d e) (omega arith) (event-numbers d e)
+answer-below d e = first-below pastEvents (refusals d e) (omega arith) (event-numbers d e)
 
--- each event's numbers rise, so the first that applies is the lowest
+-- each event's numbers stand in their order, so the first that applies is the lowest
 pub lowest-given : LowestGiven
 unfolding answerOf
 lowest-given d e = rising-lowest 1 (refusals d e) (omega arith) (rises (shapeOf e))

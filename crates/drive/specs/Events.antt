@@ -1,7 +1,7 @@
 -- Document 01: the events, the table of refusals, and what an event makes of a drive.
 use Prim.Native.Nat.{ℕ}
 use mathlib.Core.Path.{_≡_}
-use mathlib.Core.Bool.{Bool, not, cond, _||_}
+use mathlib.Core.Bool.{Bool, not, cond, _&&_, _||_}
 use mathlib.Core.List.{List, [], _∷_, map}
 use lib.Dec.{eqb, ltb}
 use lib.ListN.{length}
@@ -15,6 +15,8 @@ use Rattle.sensor.specs.Single.{powerCycleOf}
 use Rattle.sensor_set.specs.declared.SensorEvent.{SensorEvent}
 use Rattle.sensor_set.specs.declared.SensorEvent.the-variants as S
 use Rattle.sensor_set.specs.Columns.{sensorRefusals, sensorAfter}
+use Rattle.expression.specs.Elements.{elementsIn}
+use Rattle.evaluator.specs.Formed.{malformed}
 use Rattle.token_reader.specs.Read.{mostTokenBytes, readTokens, answerIn, expressionIn}
 use Rattle.band.specs.declared.Side.{Side}
 use Rattle.band.specs.declared.Side.the-variants.{Read, Write}
@@ -94,17 +96,23 @@ formedFrom c bytes row = formedRow c (expressionIn (readTokens bytes)) row
 abbrev pub tokensAnswer : BandColumns → List ℕ → ℕ
 tokensAnswer c bytes = cond (named 32 (c .mask)) (answerIn (readTokens bytes)) 0
 
+-- document 02, #104: "A Set with a malformed, non-empty expression": it names one, and the bytes read to one. It does not depend on the conditions.
+abbrev pub malformedIn : BandColumns → List ℕ → Bool
+malformedIn c bytes = named 32 (c .mask) && malformed (elementsIn (expressionIn (readTokens bytes)))
+
 -- a new row whose Set is held, under the conditions
 abbrev pub heldUnder : List Bool → BandColumns → Row → Bool
 heldUnder conditions c new = heldBy c new (valueIn conditions new)
 
 -- the refusals of a Set of a row that is there: 2 "out of range: a field exceeds its range" ("an unknown mask bit or more than 1,024
--- expression bytes gets 2"), 3 "not tokens" and 4 "too long" ("the one met first from the left"), 8 "held: an unlock under a TRUE expression"
+-- expression bytes gets 2"), 3 "not tokens" and 4 "too long" ("the one met first from the left"), 13 "malformed, right after 3 and 4 and before
+-- 8", 8 "held: an unlock under a TRUE expression"
 abbrev pub rowRefusalsIf : BandColumns → List ℕ → (held : Bool) → List Refusal
 rowRefusalsIf c bytes held =
     when 2 (not (bandColumnsFit c) || ltb mostTokenBytes (length bytes))
     ∷ when 3 (eqb (tokensAnswer c bytes) 3)
     ∷ when 4 (eqb (tokensAnswer c bytes) 4)
+    ∷ when 13 (malformedIn c bytes)
     ∷ when 8 held
     ∷ []
 
@@ -137,7 +145,7 @@ refusals d e = refusalsBy d (shapeOf e)
 unfoldable pub answerOf : Drive → Event → ℕ
 answerOf d e = firstOf (refusals d e)
 
--- "The lowest number that applies is given": so it is with every event of document 01, on every drive
+-- "The lowest number that applies is given", 13 in its place (`orderOf`): so it is with every event, on every drive
 abbrev pub LowestGiven : Type 0
 LowestGiven = (d : Drive) (e : Event) → LowestOf (refusals d e) (answerOf d e)
 
@@ -175,7 +183,7 @@ pub record Replies (d : Drive) (e : Event) (r : Reply) : Type 0 where
   pub answer : numberOf (r .answer) ≡ answerOf d e
   pub stops : r .stops ≡ stopsOf d e
   pub drive : r .drive ≡ stepOf d e
-  -- "The lowest number that applies is given"
+  -- "The lowest number that applies is given", 13 in its place
   pub lowest : LowestOf (refusals d e) (numberOf (r .answer))
 
 -- the event that a kind and the bytes beside it are; only a band Set looks at the bytes

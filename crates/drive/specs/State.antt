@@ -11,6 +11,7 @@ use Rattle.sensor.specs.declared.single.Sensor.{Sensor}
 use Rattle.sensor.specs.Single.{freshSensor, endsNext}
 use Rattle.sensor.specs.Single.{sensorTick}
 use Rattle.sensors.specs.Sixteen.{conditionsBelow}
+use Rattle.evaluator.specs.declared.Evaluation.{Evaluation}
 use Rattle.band.specs.declared.Row.{Row}
 use Rattle.band.specs.Rows.{freshRow, valueIn, settleRow}
 use Rattle.geometry.specs.declared.Span.{Span}
@@ -94,8 +95,8 @@ rowAt d band = getD (d .rows) band freshRow
 abbrev pub sensorAt : Drive → ℕ → Sensor
 sensorAt d sensor = getD (d .sensors) sensor freshSensor
 
--- the value of a band's expression
-abbrev pub valueAt : Drive → ℕ → Bool
+-- the value of a band's expression: TRUE, FALSE or malformed
+abbrev pub valueAt : Drive → ℕ → Evaluation
 valueAt d band = valueIn (conditionsOf d) (rowAt d band)
 
 -- "Settling, after every event and tick: a side that is enabled, under a TRUE expression, becomes locked."

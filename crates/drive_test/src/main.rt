@@ -5,7 +5,9 @@ use band::Row;
 use band_columns::BandColumns;
 use drive::Drive;
 use drive::Kind;
+use evaluator::Evaluation;
 use event_reader::EventRead;
+use expression::Expression;
 use script::HeaderRead;
 use sensor::Sensor;
 use sensor_set::SensorColumns;
@@ -22,6 +24,9 @@ const SECOND: [u8; 14] = *b"\xF0\xF2\xA4\x00\x00\x0C\x0E\xA4\x00\x00\x00\x01\xF3
 const NOT_SECOND: [u8; 22] =
     *b"\xF0\xF2\xA4\x00\x00\x0C\x0E\xA4\x00\x00\x00\x01\xF3\xF2\xA4\x00\x00\x04\x0E\x02\xF3\xF1";
 
+// AND alone, which runs short.
+const AND_ALONE: [u8; 10] = *b"\xF0\xF2\xA4\x00\x00\x04\x0E\x00\xF3\xF1";
+
 fn print(text: &[u8]) {
     io::write_all(1, text);
 }
@@ -37,6 +42,11 @@ fn print_bit(b: bool) {
     } else {
         print_next(0);
     }
+}
+
+// As the listing has it: 1 for TRUE.
+fn print_value(v: Evaluation) {
+    print_bit(v.is_true());
 }
 
 fn print_answer(answer: Answer) {
@@ -56,7 +66,7 @@ fn print_band(number: usize, row: Row, conditions: [bool; 16]) {
     print_next(number as u64);
     print_bit(row.read_locked);
     print_bit(row.write_locked);
-    print_bit(row.value(conditions));
+    print_value(row.value(conditions));
     print(b"\n");
 }
 
@@ -310,6 +320,45 @@ fn least_drive() {
     end(d);
 }
 
+// A drive that no script leaves: the read side of its band is enabled under AND alone.
+fn malformed_row() -> Drive {
+    let fresh = Drive::fresh(1_000, 1, 0);
+    let mut made = fresh.drive;
+    let mut expression = Expression::empty();
+    expression.count = 1;
+    let mut row = made.rows[0];
+    row.read_lock_enabled = true;
+    row.expression = expression;
+    made.rows[0] = row;
+    made
+}
+
+// Such a row is not under a TRUE expression: a transfer and an unlock are done. A Set is judged by the expression that it names, and by no other.
+fn stored_malformed() {
+    print(b"malformed\n");
+    let d = after(
+        malformed_row(),
+        0,
+        Kind::Transfer {
+            direction: 0,
+            start: 0,
+            count: 1,
+        },
+        b"",
+    );
+    let d = after_set(d, 1, 0, set(4, 0), b"");
+    let d = after_set(d, 2, 0, set(2, 1), &AND_ALONE);
+    let d = after_set(d, 3, 0, set(32, 0), &AND_ALONE);
+    let d = after_set(d, 4, 1, set(32, 0), &AND_ALONE);
+    let d = after_set(d, 5, 0, set(48, 8), &AND_ALONE);
+    end(d);
+    let d = after_set(d, 6, 0, set(36, 1), &ALWAYS);
+    let d = after_set(d, 7, 0, set(36, 0), &AND_ALONE);
+    let d = after_set(d, 8, 0, set(4, 0), &AND_ALONE);
+    let d = after_set(d, 9, 0, set(36, 0), b"\xF0\xF1");
+    end(d);
+}
+
 // A drive of one band whose read side is enabled and has an expression, and of sixteen sensors that are all TRUE. Nothing has settled.
 fn guarded(tokens: &[u8]) -> Drive {
     let fresh = Drive::fresh(1_000, 1, 16);
@@ -340,7 +389,7 @@ fn count_sensors(drive: Drive, count: usize) {
     print_next(count as u64);
     print_answer(answer);
     print_bit(row.read_locked);
-    print_bit(row.value(left.conditions()));
+    print_value(row.value(left.conditions()));
     print(b"\n");
 }
 
@@ -359,6 +408,7 @@ fn main() {
     outside_a_script();
     headers();
     least_drive();
+    stored_malformed();
     counts(guarded(&SECOND));
     counts(guarded(&NOT_SECOND));
 }

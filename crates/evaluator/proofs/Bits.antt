@@ -7,13 +7,14 @@ use mathlib.Core.Option.{Option, none, some}
 use native.Mathlib.Omega.{arith}
 use lib.Dec.{eqb}
 use lib.ListN.{length, List·getD-eq-default}
-use borrow.Author.Tests.{eq-eqb, ne-eqb}
+use borrow.Author.Tests.{ne-eqb}
 use Rattle.base.specs.Lists.{oneIf}
 use Rattle.base.proofs.Lists.{oneIf-le}
 use Rattle.expression.specs.declared.Part.{Part}
 use Rattle.expression.specs.declared.Part.the-variants.{Reference, Operator}
-use Rattle.evaluator.specs.Value.{conditionAt, onTwo, onOne, operatorOf, putElement, onStack, endOf, orFalse}
-use Rattle.evaluator.specs.Parts.{bitsOf, heldAs, Does}
+use Rattle.evaluator.specs.declared.Evaluation.the-variants.{Malformed}
+use Rattle.evaluator.specs.Value.{conditionAt, onTwo, onOne, operatorOf, putElement, onStack, left}
+use Rattle.evaluator.specs.Parts.{bitsOf, heldAs, Does, Ends}
 
 pub absent : (cs : List Bool) (row : ℕ) → length cs ≤ row → false ≡ conditionAt cs row
 absent cs row h = sym (List·getD-eq-default cs false h)
@@ -130,10 +131,19 @@ one-more f p none = omega arith
 one-more f (Reference row) (some s) = omega (arith, oneIf-le (f row))
 one-more f (Operator code) (some s) = coded-bits code s
 
--- the value at the end
-pub ended : (held : Option (List Bool)) (n : ℕ) → n ≡ heldAs held → eqb n 3 ≡ orFalse (endOf held)
-ended none n e = ne-eqb n 3 (λ q. omega arith)
-ended (some []) n e = ne-eqb n 3 (λ q. omega arith)
-ended (some (true ∷ [])) n e = eq-eqb n 3 e
-ended (some (false ∷ [])) n e = ne-eqb n 3 (λ q. omega arith)
-ended (some (v ∷ w ∷ s)) n e = ne-eqb n 3 (λ q. omega (arith, some-bits s))
+-- the value at the end, by the number there
+pub end-value : (v : Bool) (n : ℕ) → n ≡ 2 + oneIf v → Ends n (left v)
+end-value v n q none e = absurd (omega arith)
+end-value v n q (some []) e = absurd (omega arith)
+end-value true n q (some (true ∷ [])) e = refl
+end-value true n q (some (false ∷ [])) e = absurd (omega arith)
+end-value false n q (some (true ∷ [])) e = absurd (omega arith)
+end-value false n q (some (false ∷ [])) e = refl
+end-value v n q (some (a ∷ b ∷ s)) e = absurd (omega (arith, some-bits s, oneIf-le v))
+
+pub end-malformed : (n : ℕ) → (n ≡ 2 → ⊥) → (n ≡ 3 → ⊥) → Ends n Malformed
+end-malformed n p q none e = refl
+end-malformed n p q (some []) e = refl
+end-malformed n p q (some (true ∷ [])) e = absurd (q e)
+end-malformed n p q (some (false ∷ [])) e = absurd (p e)
+end-malformed n p q (some (v ∷ w ∷ s)) e = refl

@@ -11,7 +11,8 @@ use Rattle.base.proofs.Cases.{or-yes}
 use Rattle.expression.specs.declared.Part.{Part}
 use Rattle.expression.specs.declared.Part.the-variants.{Reference, Operator}
 use Rattle.expression.specs.declared.Element.{Element}
-use Rattle.evaluator.specs.Value.{conditionAt, putElement, onStack, evaluate, resultBy, orFalse, valueOf, refersTo, mentions}
+use Rattle.evaluator.specs.declared.Evaluation.the-variants.{False}
+use Rattle.evaluator.specs.Value.{conditionAt, putElement, onStack, evaluate, valueBy, valueOf, refersTo, mentions}
 
 or-second : (a b : Bool) → b ≡ true → (a || b) ≡ true
 or-second true b e = refl
@@ -32,18 +33,19 @@ module _ (f g : ℕ → Bool) where
       rw (step-agree (e .part) stack (λ row q. h row (sym (or-yes (refersTo row (e .part)) (mentions row es) q))))
       (agree es (onStack (putElement g (e .part)) stack) (λ row q. h row (or-second (refersTo row (e .part)) (mentions row es) q)))
 
-  pub result-agree : (es : List Element) → ((row : ℕ) → mentions row es ≡ true → f row ≡ g row) → resultBy f es ≡ resultBy g es
-  result-agree es h = agree es (some []) h
+  pub value-agree : (es : List Element) → ((row : ℕ) → mentions row es ≡ true → f row ≡ g row) → valueBy f es ≡ valueBy g es
+  value-agree [] h = refl
+  value-agree (e ∷ es) h = agree (e ∷ es) (some []) h
 
 pub value-same : (cs ds : List Bool) (es : List Element)
     → ((row : ℕ) → mentions row es ≡ true → conditionAt cs row ≡ conditionAt ds row) → valueOf cs es ≡ valueOf ds es
 unfolding valueOf
-value-same cs ds es h = ap orFalse (result-agree (conditionAt cs) (conditionAt ds) es h)
+value-same cs ds es h = value-agree (conditionAt cs) (conditionAt ds) es h
 
-pub value-empty : (cs : List Bool) → valueOf cs [] ≡ false
-unfolding valueOf evaluate
+pub value-empty : (cs : List Bool) → valueOf cs [] ≡ False
+unfolding valueOf
 value-empty cs = refl
 
 -- of no elements
-pub none-taken : (cs : List Bool) (es : List Element) (n : ℕ) → n ≡ 0 → false ≡ valueOf cs (take n es)
+pub none-taken : (cs : List Bool) (es : List Element) (n : ℕ) → n ≡ 0 → False ≡ valueOf cs (take n es)
 none-taken cs es n e = sym (ap (λ (k : ℕ). valueOf cs (take k es)) e ∙ value-empty cs)

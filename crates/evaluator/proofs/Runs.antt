@@ -2,19 +2,19 @@
 use Prim.Native.Nat.{ℕ, _+_, _*_, _^_, _≤_, _<_}
 use mathlib.Core.Path.{_≡_, refl, ap, _∙_}
 use mathlib.Core.Bool.{Bool}
-use mathlib.Core.List.{List, []}
+use mathlib.Core.List.{List, [], _∷_}
 use mathlib.Core.Option.{Option, some}
 use native.Mathlib.Nat.{pow-suc}
 use native.Mathlib.Numerals.{add-one}
 use native.Mathlib.Omega.{arith}
-use lib.Dec.{eqb}
 use lib.ListN.{getD, length, take, drop, length-take, drop-of-length-le}
 use lib.Pow.{pow-mono}
 use lib.Seq.{drop-cons, getD-take}
 use Rattle.expression.specs.declared.Element.{Element}
-use Rattle.evaluator.specs.Value.{conditionAt, putElement, onStack, evaluate, resultOf, orFalse, valueOf}
-use Rattle.evaluator.specs.Parts.{heldAs, Does}
-use Rattle.evaluator.proofs.Bits.{ended, one-more}
+use Rattle.evaluator.specs.declared.Evaluation.{Evaluation}
+use Rattle.evaluator.specs.Value.{conditionAt, putElement, onStack, evaluate, valueBy, valueOf}
+use Rattle.evaluator.specs.Parts.{heldAs, Does, Ends}
+use Rattle.evaluator.proofs.Bits.{one-more}
 
 pub record Ran (es : List Element) (cs : List Bool) (count i n : ℕ) : Type 0 where
   pub low : i ≤ 32
@@ -22,14 +22,27 @@ pub record Ran (es : List Element) (cs : List Bool) (count i n : ℕ) : Type 0 w
   pub held : Option (List Bool)
   pub bits : n ≡ heldAs held
   pub few : n < 2 ^ (i + 1)
-  pub same : evaluate (conditionAt cs) (drop i (take count es)) held ≡ resultOf cs (take count es)
+  pub same : evaluate (conditionAt cs) (drop i (take count es)) held ≡ valueOf cs (take count es)
 
 double : (i : ℕ) → 2 ^ (i + 1 + 1) ≡ 2 ^ (i + 1) * 2
 double i = ap (λ (k : ℕ). 2 ^ k) (add-one (i + 1)) ∙ pow-suc 2 (i + 1)
 
 module _ (es : List Element) (cs : List Bool) (count : ℕ) where
-  pub start : length es ≡ 32 → Ran es cs count 0 1
-  start l = record { low = omega arith; long = l; held = some []; bits = refl; few = omega arith; same = refl }
+  -- where there is an element, the walk begins with an empty stack
+  pub start : length es ≡ 32 → (count ≡ 0 → ⊥) → Ran es cs count 0 1
+  unfolding valueOf
+  start l z = record {
+    low = omega arith;
+    long = l;
+    held = some [];
+    bits = refl;
+    few = omega arith;
+    same = walked (take count es) (rw length-take (omega (arith, l)));
+  }
+    where
+      walked : (xs : List Element) → 1 ≤ length xs → evaluate (conditionAt cs) xs (some []) ≡ valueBy (conditionAt cs) xs
+      walked [] h = absurd (omega (arith, h))
+      walked (x ∷ xs) h = refl
 
   -- room for one value more
   pub room : (i n : ℕ) → Ran es cs count i n → i < 32 → n < 4294967296
@@ -51,12 +64,12 @@ module _ (es : List Element) (cs : List Bool) (count : ℕ) where
         (rw (← getD-take count es i d more) (rw (drop-cons (take count es) i d (rw length-take (omega (arith, h .long)))) at (h .same)));
   }
 
-  over : (i n : ℕ) → Ran es cs count i n → length (take count es) ≤ i → eqb n 3 ≡ valueOf cs (take count es)
-  unfolding valueOf evaluate
-  over i n h k = ended (h .held) n (h .bits) ∙ ap orFalse (rw (drop-of-length-le (take count es) {i = i} k) at (h .same))
+  over : (i n : ℕ) (v : Evaluation) → Ran es cs count i n → length (take count es) ≤ i → Ends n v → v ≡ valueOf cs (take count es)
+  unfolding evaluate
+  over i n v h k t = t (h .held) (h .bits) ∙ rw (drop-of-length-le (take count es) {i = i} k) at (h .same)
 
-  pub done : (i n : ℕ) → Ran es cs count i n → count ≤ i → eqb n 3 ≡ valueOf cs (take count es)
-  done i n h k = over i n h (rw length-take (omega arith))
+  pub done : (i n : ℕ) (v : Evaluation) → Ran es cs count i n → count ≤ i → Ends n v → v ≡ valueOf cs (take count es)
+  done i n v h k t = over i n v h (rw length-take (omega arith)) t
 
-  pub done-all : (i n : ℕ) → Ran es cs count i n → 32 ≤ i → eqb n 3 ≡ valueOf cs (take count es)
-  done-all i n h k = over i n h (rw length-take (omega (arith, h .long)))
+  pub done-all : (i n : ℕ) (v : Evaluation) → Ran es cs count i n → 32 ≤ i → Ends n v → v ≡ valueOf cs (take count es)
+  done-all i n v h k t = over i n v h (rw length-take (omega (arith, h .long))) t

@@ -5,7 +5,8 @@ use mathlib.Core.Bool.{Bool}
 use mathlib.Core.List.{List, [], _∷_}
 use mathlib.Core.Option.{Option, none, some}
 use Rattle.base.specs.Lists.{oneIf}
-use Rattle.evaluator.specs.Value.{onStack}
+use Rattle.evaluator.specs.declared.Evaluation.{Evaluation}
+use Rattle.evaluator.specs.Value.{onStack, endOf}
 
 -- the last value lowest, and a 1 above the first
 abbrev pub bitsOf : List Bool → ℕ
@@ -20,3 +21,7 @@ heldAs (some stack) = bitsOf stack
 -- r is the number after f, where n is the number before it, whatever stack that holds
 abbrev pub Does : (List Bool → Option (List Bool)) → ℕ → ℕ → Type 0
 Does f n r = (stack : Option (List Bool)) → n ≡ heldAs stack → r ≡ heldAs (onStack f stack)
+
+-- v is the value at the end, where n is the number there, whatever stack that holds
+abbrev pub Ends : ℕ → Evaluation → Type 0
+Ends n v = (stack : Option (List Bool)) → n ≡ heldAs stack → v ≡ endOf stack

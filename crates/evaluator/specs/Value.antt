@@ -1,6 +1,7 @@
--- Document 01, 'Value of an expression' (002, 3.2.4).
+-- Document 01, 'Value of an expression' (002, 3.2.4), as document 02, #104 amends it: "Evaluation says TRUE, FALSE or malformed, and its users take
+-- the three."
 use Prim.Native.Nat.{ℕ}
-use mathlib.Core.Bool.{Bool, false, not, cond, _&&_, _||_}
+use mathlib.Core.Bool.{Bool, true, false, not, cond, _&&_, _||_}
 use mathlib.Core.List.{List, [], _∷_}
 use mathlib.Core.Option.{Option, none, some}
 use lib.Dec.{eqb}
@@ -9,6 +10,8 @@ use Rattle.base.specs.Lists.{any}
 use Rattle.expression.specs.declared.Part.{Part}
 use Rattle.expression.specs.declared.Part.the-variants.{Reference, Operator}
 use Rattle.expression.specs.declared.Element.{Element}
+use Rattle.evaluator.specs.declared.Evaluation.{Evaluation}
+use Rattle.evaluator.specs.declared.Evaluation.the-variants.{True, False, Malformed}
 
 -- "A reference puts the row's condition on the stack, FALSE if that row is absent.": of a condition for each row
 abbrev pub conditionAt : List Bool → ℕ → Bool
@@ -34,40 +37,42 @@ putElement f (Reference row) stack = some (f row ∷ stack)
 putElement f (Operator code) stack = operatorOf code stack
 
 -- once malformed, always malformed
-abbrev pub onStack : (List Bool → Option (List Bool)) → Option (List Bool) → Option (List Bool)
+abbrev pub onStack : {A : Type 0} → (A → Option A) → Option A → Option A
 onStack f none = none
 onStack f (some stack) = f stack
 
--- "Well formed: no operator runs short and exactly one value is left.": that value, or none for a malformed list
-abbrev pub endOf : Option (List Bool) → Option Bool
-endOf none = none
-endOf (some []) = none
-endOf (some (v ∷ [])) = some v
-endOf (some (v ∷ w ∷ stack)) = none
+-- a value that is left
+abbrev pub left : Bool → Evaluation
+left true = True
+left false = False
+
+-- "Well formed: no operator runs short and exactly one value is left.": that value; else malformed
+abbrev pub endOf : Option (List Bool) → Evaluation
+endOf none = Malformed
+endOf (some []) = Malformed
+endOf (some (v ∷ [])) = left v
+endOf (some (v ∷ w ∷ stack)) = Malformed
 
 -- "Postfix.": the walk
-unfoldable pub evaluate : (ℕ → Bool) → List Element → Option (List Bool) → Option Bool
+unfoldable pub evaluate : (ℕ → Bool) → List Element → Option (List Bool) → Evaluation
 evaluate f [] stack = endOf stack
 evaluate f (e ∷ es) stack = evaluate f es (onStack (putElement f (e .part)) stack)
 
--- TRUE, FALSE or, as none, malformed
-abbrev pub resultBy : (ℕ → Bool) → List Element → Option Bool
-resultBy f es = evaluate f es (some [])
+-- The three. "Empty .. has the value FALSE": "a malformed, non-empty expression" is one of the others.
+abbrev pub valueBy : (ℕ → Bool) → List Element → Evaluation
+valueBy f [] = False
+valueBy f (e ∷ es) = evaluate f (e ∷ es) (some [])
 
--- "Empty or malformed is stored and has the value FALSE."
-abbrev pub orFalse : Option Bool → Bool
-orFalse none = false
-orFalse (some v) = v
-
-abbrev pub valueBy : (ℕ → Bool) → List Element → Bool
-valueBy f es = orFalse (resultBy f es)
-
--- both under the sensors' conditions
-abbrev pub resultOf : List Bool → List Element → Option Bool
-resultOf conditions es = resultBy (conditionAt conditions) es
-
-unfoldable pub valueOf : List Bool → List Element → Bool
+-- under the sensors' conditions
+unfoldable pub valueOf : List Bool → List Element → Evaluation
 valueOf conditions es = valueBy (conditionAt conditions) es
+
+-- what locks, and what holds a Set: TRUE, neither FALSE nor malformed. "malformed .. has the value FALSE" where a row has such a list, which no
+-- script can store.
+abbrev pub isTrue : Evaluation → Bool
+isTrue True = true
+isTrue False = false
+isTrue Malformed = false
 
 -- "refers to that sensor's row": a part, and a list of elements
 abbrev pub refersTo : ℕ → Part → Bool

@@ -1,18 +1,38 @@
-// The value of an expression (document 01, 'Value of an expression'; 002, 3.2.4).
+// The value of an expression (document 01, 'Value of an expression'; 002, 3.2.4): TRUE, FALSE or malformed (document 02, #104).
 //
 // The stack is the bits of a number: the last value lowest, and a 1 above the first. It is 0 once the list is malformed.
 ghost use mathlib.Core.Path.{_≡_};
 ghost use mathlib.Core.Bool.{_&&_, _||_, not};
 ghost use Prim.Native.Nat.{_<_};
 ghost use lib.ListN.{take};
-ghost use Rattle.evaluator.specs.Value.{conditionAt, onTwo, onOne, operatorOf, putElement, valueOf};
+ghost use Rattle.evaluator.specs.Value.{conditionAt, onTwo, onOne, operatorOf, putElement, valueOf, isTrue};
 ghost use mathlib.Core.List.{_∷_};
 ghost use mathlib.Core.Option.{some};
-ghost use Rattle.evaluator.specs.Parts.{Does};
+ghost use Rattle.evaluator.specs.Parts.{Does, Ends};
 ghost use Rattle.expression.specs.Elements.{elementsIn};
 use expression::Element;
 use expression::Expression;
 use expression::Part;
+
+// What evaluation says of a list of elements.
+pub enum Evaluation {
+    True,
+    False,
+    Malformed,
+}
+
+impl Evaluation {
+    // Whether it is TRUE: malformed is not.
+    pub fn is_true(self) -> bool
+        ensures { λ r. ⌜ r ≡ isTrue self ⌝ }
+    {
+        match self {
+            Evaluation::True => true,
+            Evaluation::False => false,
+            Evaluation::Malformed => false,
+        }
+    }
+}
 
 // The condition of a row, FALSE where the row is absent. The conditions are lent to the walk: by value they would be copied at each reference.
 fn condition(conditions: &[bool], row: u32) -> bool
@@ -93,28 +113,45 @@ fn step(stack: u64, part: Part, conditions: &[bool]) -> u64
     }
 }
 
+// Of no elements.
+const EMPTY: Evaluation = Evaluation::False;
+
+// What is left at the end: one value, or the list is malformed.
+fn end_of(stack: u64) -> Evaluation
+    ensures { λ r. ⌜ Ends stack r ⌝ }
+{
+    match stack {
+        2 => Evaluation::False,
+        3 => Evaluation::True,
+        _ => Evaluation::Malformed,
+    }
+}
+
 // The value of the first `count` elements under the sixteen conditions.
-pub fn value(elements: [Element; 32], count: usize, conditions: [bool; 16]) -> bool
+pub fn value(elements: [Element; 32], count: usize, conditions: [bool; 16]) -> Evaluation
     ensures { λ r. ⌜ r ≡ valueOf conditions (take count elements) ⌝ }
 {
+    if count == 0 {
+        return EMPTY;
+    }
     let mut stack: u64 = 1;
     for i in 0..Expression::ELEMENTS {
         if count <= i {
-            return stack == 3;
+            return end_of(stack);
         }
         let e = elements[i];
         let part = e.part;
         stack = step(stack, part, &conditions);
     }
-    stack == 3
+    end_of(stack)
 }
 
 // The value of an expression under the sixteen conditions. Of an empty one nothing is copied.
-pub fn value_of(expression: Expression, conditions: [bool; 16]) -> bool
+pub fn value_of(expression: Expression, conditions: [bool; 16]) -> Evaluation
     ensures { λ r. ⌜ r ≡ valueOf conditions (elementsIn expression) ⌝ }
 {
     if expression.count == 0 {
-        return false;
+        return EMPTY;
     }
     let elements = expression.elements;
     value(elements, expression.count, conditions)

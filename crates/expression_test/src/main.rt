@@ -1,7 +1,7 @@
 // Reads strings of bytes from standard input, each after its length in four bytes, low first, and prints a line for each: its number, its
-// length and the token reader's answer. Where that is 0 there follow the elements, their value under three sets of conditions, their values on
-// two sets of sensors of which 0 to 17, and then more than there can be, are said to be there, what the writer answers and whether it writes the
-// same bytes and keeps the rest of its output, and its answer to an output one byte short.
+// length and the token reader's answer. Where that is 0 there follow the elements, their value under three sets of conditions (1 for TRUE, 0 for
+// FALSE, - for malformed), their values on two sets of sensors of which 0 to 17, and then more than there can be, are said to be there, what the
+// writer answers and whether it writes the same bytes and keeps the rest of its output, and its answer to an output one byte short.
 //
 // Then it prints a line for each of some calls of the writer with a list of numbers: the list's length, the output's, the answer, the
 // bytes written, whether the rest was kept, and those bytes.
@@ -9,6 +9,7 @@ ghost use mathlib.Core.Path.{_≡_};
 ghost use Prim.Native.Nat.{_<_, _≤_};
 ghost use lib.ListN.{length};
 use answer::Answer;
+use evaluator::Evaluation;
 use expression::Expression;
 use expression::Part;
 use output::Written;
@@ -47,12 +48,24 @@ fn print_answer(answer: Answer) {
     print_next(answer.number() as u64);
 }
 
-fn print_value(value: bool) {
-    if value {
-        print(b" 1");
-    } else {
-        print(b" 0");
+// TRUE, FALSE or malformed.
+fn print_value(value: Evaluation) {
+    match value {
+        Evaluation::True => {
+            print(b"1");
+        }
+        Evaluation::False => {
+            print(b"0");
+        }
+        Evaluation::Malformed => {
+            print(b"-");
+        }
     }
+}
+
+fn print_next_value(value: Evaluation) {
+    print(b" ");
+    print_value(value);
 }
 
 fn print_operator(code: u8) {
@@ -119,9 +132,9 @@ fn print_values(expression: Expression) {
         false,
     ];
     print(b";");
-    print_value(evaluator::value_of(expression, [false; 16]));
-    print_value(evaluator::value_of(expression, [true; 16]));
-    print_value(evaluator::value_of(expression, even));
+    print_next_value(evaluator::value_of(expression, [false; 16]));
+    print_next_value(evaluator::value_of(expression, [true; 16]));
+    print_next_value(evaluator::value_of(expression, even));
 }
 
 fn sensor(condition: bool) -> Sensor {
@@ -137,22 +150,14 @@ fn odd_and(even: bool) -> [Sensor; 16] {
     [e, o, e, o, e, o, e, o, e, o, e, o, e, o, e, o]
 }
 
-fn print_digit(value: bool) {
-    if value {
-        print(b"1");
-    } else {
-        print(b"0");
-    }
-}
-
 // The values on sixteen sensors, by how many of them are there.
 fn print_by_count(expression: Expression, all: [Sensor; 16]) {
     let elements = expression.elements;
     print(b" ");
     for present in 0..18 {
-        print_digit(limit::value(elements, expression.count, all, present));
+        print_value(limit::value(elements, expression.count, all, present));
     }
-    print_digit(limit::value(elements, expression.count, all, MOST));
+    print_value(limit::value(elements, expression.count, all, MOST));
 }
 
 fn print_counted(expression: Expression) {

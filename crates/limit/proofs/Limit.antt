@@ -14,9 +14,10 @@ use Rattle.sensor.proofs.Motion.{fresh-condition}
 use Rattle.sensors.specs.Sixteen.{conditionsBelow}
 use Rattle.sensors.proofs.Gather.{condition-below, condition-past}
 use Rattle.expression.specs.declared.Element.{Element}
-use Rattle.evaluator.specs.Value.{conditionAt, resultOf, orFalse, valueOf}
-use Rattle.evaluator.proofs.Mentions.{result-agree}
-use Rattle.limit.specs.Limit.{ownConditions, testedCondition, testedResult, testedValue, LimitTest}
+use Rattle.evaluator.specs.declared.Evaluation.{Evaluation}
+use Rattle.evaluator.specs.Value.{conditionAt, valueOf}
+use Rattle.evaluator.proofs.Mentions.{value-agree}
+use Rattle.limit.specs.Limit.{ownConditions, testedCondition, testedValue, LimitTest}
 
 sixteen : (count : ℕ) (l : List Sensor) → length (conditionsBelow count l) ≡ length l
 unfolding conditionsBelow
@@ -40,22 +41,19 @@ filled count l row = go (ltb row count) refl
     go true e = present count l row (ltb-true row count e)
     go false e = condition-past count l row (ltb-false row count e)
 
-results-stay : (count : ℕ) (l : List Sensor) (es : List Element) → resultOf (conditionsBelow count l) es ≡ testedResult count l es
-results-stay count l es = result-agree (conditionAt (conditionsBelow count l)) (testedCondition count l) es (λ row m. filled count l row)
-
 values-stay : (count : ℕ) (l : List Sensor) (es : List Element) → valueOf (conditionsBelow count l) es ≡ testedValue count l es
 unfolding valueOf testedValue
-values-stay count l es = ap orFalse (results-stay count l es)
+values-stay count l es = value-agree (conditionAt (conditionsBelow count l)) (testedCondition count l) es (λ row m. filled count l row)
 
 -- the evaluator's value, under the conditions that were filled
-pub tied : (count : ℕ) (l : List Sensor) (es : List Element) (conditions : List Bool) (v : Bool) → conditions ≡ conditionsBelow count l
+pub tied : (count : ℕ) (l : List Sensor) (es : List Element) (conditions : List Bool) (v : Evaluation) → conditions ≡ conditionsBelow count l
     → v ≡ valueOf conditions es → v ≡ testedValue count l es
 tied count l es conditions v f h = h ∙ ap (λ (cs : List Bool). valueOf cs es) f ∙ values-stay count l es
 
 none-above : (count : ℕ) (l k : List Sensor) (es : List Element) → take count l ≡ take count k → testedValue count l es ≡ testedValue count k es
 unfolding testedValue
 none-above count l k es h =
-    ap orFalse (result-agree (testedCondition count l) (testedCondition count k) es (λ row q. go row (ltb row count) refl))
+    value-agree (testedCondition count l) (testedCondition count k) es (λ row q. go row (ltb row count) refl)
   where
     at : (row : ℕ) → row < count → conditionAt (ownConditions l) row ≡ conditionAt (ownConditions k) row
     at row q =
@@ -93,7 +91,6 @@ limit-test = record {
   sixteen = sixteen;
   absent = condition-past;
   present = present;
-  results-stay = results-stay;
   values-stay = values-stay;
   none-above = none-above;
   all-below = all-below;

@@ -1,17 +1,17 @@
--- Document 02, #103, 'Limit test out of the evaluator's loop': the value with the count of sensors tested at each reference, and that it is the
+-- Document 02, #103, 'Limit test out of the evaluator's loop': the value, malformed too, with the count of sensors tested at each reference, and that it is the
 -- evaluator's value under conditions which are filled before the walk (theorem `limit-test` in proofs/Limit). The array of sensors is a list here,
 -- of any length.
 use Prim.Native.Nat.{ℕ, _≤_, _<_}
 use mathlib.Core.Path.{_≡_}
 use mathlib.Core.Bool.{Bool, false, cond}
 use mathlib.Core.List.{List, map}
-use mathlib.Core.Option.{Option}
 use lib.Dec.{ltb}
 use lib.ListN.{length, take}
 use Rattle.sensor.specs.declared.single.Sensor.{Sensor}
 use Rattle.sensors.specs.Sixteen.{conditionsBelow}
 use Rattle.expression.specs.declared.Element.{Element}
-use Rattle.evaluator.specs.Value.{conditionAt, resultBy, valueBy, resultOf, valueOf}
+use Rattle.evaluator.specs.declared.Evaluation.{Evaluation}
+use Rattle.evaluator.specs.Value.{conditionAt, valueBy, valueOf}
 
 -- every sensor's own condition, whatever the count
 abbrev pub ownConditions : List Sensor → List Bool
@@ -22,11 +22,8 @@ ownConditions sensors = map (λ s. s .condition) sensors
 abbrev pub testedCondition : ℕ → List Sensor → ℕ → Bool
 testedCondition count sensors row = cond (ltb row count) (conditionAt (ownConditions sensors) row) false
 
--- the walk with that test inside: TRUE, FALSE or malformed, and the value
-abbrev pub testedResult : ℕ → List Sensor → List Element → Option Bool
-testedResult count sensors es = resultBy (testedCondition count sensors) es
-
-unfoldable pub testedValue : ℕ → List Sensor → List Element → Bool
+-- the walk with that test inside: TRUE, FALSE or malformed
+unfoldable pub testedValue : ℕ → List Sensor → List Element → Evaluation
 testedValue count sensors es = valueBy (testedCondition count sensors) es
 
 pub record LimitTest : Type 0 where
@@ -37,9 +34,7 @@ pub record LimitTest : Type 0 where
   -- and below it with the sensors' own
   pub present : (count : ℕ) (sensors : List Sensor) (row : ℕ) → row < count
       → conditionAt (conditionsBelow count sensors) row ≡ conditionAt (ownConditions sensors) row
-  -- "Values stay, for every element list and every count.": and so does whether the list is malformed
-  pub results-stay : (count : ℕ) (sensors : List Sensor) (es : List Element)
-      → resultOf (conditionsBelow count sensors) es ≡ testedResult count sensors es
+  -- "Values stay, for every element list and every count.": all three
   pub values-stay : (count : ℕ) (sensors : List Sensor) (es : List Element)
       → valueOf (conditionsBelow count sensors) es ≡ testedValue count sensors es
   -- what the sensors at or above the count hold makes no difference

@@ -3,3 +3,4 @@ pub mod Reaching
 pub mod Worked
 pub mod Readings
 pub mod Values
+pub mod Door

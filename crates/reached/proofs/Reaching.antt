@@ -1,11 +1,13 @@
 -- Every drive that events reach: the fresh one of a header in range, and what each event makes of one.
-use mathlib.Core.Path.{_≡_, refl, ap}
+use mathlib.Core.Path.{_≡_, refl, sym, ap, _∙_}
 use Prim.Native.Nat.{ℕ, zero, suc, _<_}
 use native.Mathlib.Omega.{arith}
-use mathlib.Core.Bool.{Bool, true, false, not}
+use mathlib.Core.Bool.{Bool, true, false, not, _&&_}
 use mathlib.Core.List.{List, [], _∷_, map}
+use mathlib.Core.Logic.{inl}
 use lib.Dec.{eqb, leb, ltb}
 use lib.ListN.{length, replicate}
+use lib.Seq.{take-at}
 use borrow.Author.Tests.{leb-true, eqb-true, not-false}
 use Rattle.base.specs.Columns.{named}
 use Rattle.base.specs.Rows.{isRow}
@@ -22,6 +24,9 @@ use Rattle.sensor.proofs.Motion.{fresh-tick, fresh-power-cycle}
 use Rattle.base.specs.Lists.{Bytes}
 use Rattle.token_reader.specs.Read.{mostTokenBytes, TokenOutcome, elements, refusal, readTokens, expressionIn}
 use Rattle.token_reader.proofs.Fits.{read-fits}
+use Rattle.expression.specs.Elements.{elementsIn, expressionOf}
+use Rattle.evaluator.specs.Formed.{malformed}
+use Rattle.evaluator.proofs.Formed.{well-formed}
 use Rattle.band.specs.declared.Row.{Row}
 use Rattle.band_columns.specs.declared.BandColumns.{BandColumns}
 use Rattle.band.specs.Rows.{freshRow, withLocked, lockUnder, settleRow, inSet, resetRow}
@@ -36,7 +41,7 @@ use Rattle.geometry.proofs.Invariant.{fresh-apart}
 use Rattle.drive.specs.declared.Drive.{Drive}
 use Rattle.drive.specs.State.{mostBlocks, mostBands, mostSensors, headerFits, freshDrive, withRows, withSpans, withSensors, conditionsOf, settleOf, fallOf, tickOf}
 use Rattle.drive.specs.Events.{Shape, ticking, resetting, setting, sensing, placing, looking, shapeOf, ifSetting}
-use Rattle.drive.specs.Events.{Event, refusalsBy, refusals, answerOf, formedFrom, actBy, actOf, stepOf, runOf}
+use Rattle.drive.specs.Events.{Event, refusalsBy, refusals, answerOf, formedFrom, malformedIn, actBy, actOf, stepOf, runOf}
 use Rattle.drive.proofs.Answers.{granted-free}
 use Rattle.drive.proofs.Settling.{settle-twice}
 use Rattle.reached.specs.Reached.{Table, Stored, RowFits, SensorFits, InRange, Shaped, Reached, Fields, AllFields}
@@ -54,9 +59,12 @@ keeps-fits = record {
 
 -- ---- one row
 
+empty-stored : Stored (expressionOf [])
+empty-stored = record { list = []; same = refl; few = omega arith; fit = tt; formed = inl refl }
+
 fresh-fits : RowFits freshRow
 unfolding freshRow
-fresh-fits = record { «lock_on_reset» = omega arith; expression = record { list = []; same = refl; few = omega arith; fit = tt } }
+fresh-fits = record { «lock_on_reset» = omega arith; expression = empty-stored }
 
 locked-fits : (read write : Bool) (row : Row) → RowFits row → RowFits (withLocked read write row)
 locked-fits read write row r = record { «lock_on_reset» = r .«lock_on_reset»; expression = r .expression }
@@ -69,19 +77,29 @@ reset-fits : (type : ℕ) (row : Row) → RowFits row → RowFits (resetRow type
 unfolding resetRow
 reset-fits type row r = cond-either RowFits (inSet (row .«lock_on_reset») type) (lockUnder true row) row (λ q. locked-fits _ _ row r) (λ q. r)
 
--- what a Set's bytes read to, a refusal too
-read-stored : (tokens : List ℕ) (o : TokenOutcome) → Bytes tokens → readTokens tokens ≡ o → Stored (expressionIn o)
-read-stored tokens (elements es) k e = let f = read-fits tokens es k e in record { list = es; same = refl; few = f .0; fit = f .1 }
-read-stored tokens (refusal n) k e = record { list = []; same = refl; few = omega arith; fit = tt }
+-- what a Set's bytes read to, a refusal too, where it is not malformed
+read-stored : (tokens : List ℕ) (o : TokenOutcome) → Bytes tokens → readTokens tokens ≡ o → malformed (elementsIn (expressionIn o)) ≡ false
+    → Stored (expressionIn o)
+read-stored tokens (elements es) k e q =
+    let f = read-fits tokens es k e in
+    record {
+      list = es;
+      same = refl;
+      few = f .0;
+      fit = f .1;
+      formed = well-formed .not-malformed es (sym (ap malformed (take-at es _ (length es) refl)) ∙ q);
+    }
+read-stored tokens (refusal n) k e q = empty-stored
 
-formed-fits : (c : BandColumns) (tokens : List ℕ) → columnsFit c ≡ true → Bytes tokens → (row : Row) → RowFits row
+formed-fits : (c : BandColumns) (tokens : List ℕ) → columnsFit c ≡ true → Bytes tokens → malformedIn c tokens ≡ false → (row : Row) → RowFits row
     → RowFits (formedFrom c tokens row)
 unfolding formedRow
-formed-fits c tokens e k row r = record {
+formed-fits c tokens e k w row r = record {
   «lock_on_reset» = stored-within _ (named 16 (c .mask)) (c .«lock_on_reset») (row .«lock_on_reset») (fitting c e .«lock_on_reset») (r .«lock_on_reset»);
   expression =
       cond-either Stored (named 32 (c .mask)) (expressionIn (readTokens tokens)) (row .expression)
-      (λ q. read-stored tokens (readTokens tokens) k refl) (λ q. r .expression);
+      (λ q. read-stored tokens (readTokens tokens) k refl (sym (ap (λ (b : Bool). b && malformed (elementsIn (expressionIn (readTokens tokens)))) q) ∙ w))
+      (λ q. r .expression);
 }
 
 -- ---- other rows, spans or sensors
@@ -125,7 +143,7 @@ shape-shaped d (resetting t) f q r =
 shape-shaped d (setting b c tokens) f q r =
     let fits : columnsFit c ≡ true = not-false (columnsFit c) (neither (not (columnsFit c)) (ltb mostTokenBytes (length tokens)) (q 1) .0) in
     with-rows d r _
-    (modify-table RowFits freshRow (formedFrom c tokens) (formed-fits c tokens fits f) _ _ (r .rows) b (counted _ b (q 0) .0))
+    (modify-table RowFits freshRow (formedFrom c tokens) (formed-fits c tokens fits f (q 4)) _ _ (r .rows) b (counted _ b (q 0) .0))
 shape-shaped d (sensing s x) f q r =
     with-sensors d r _ (modify-table SensorFits freshSensor (sensorAfter x) (keeps-fits .event x) _ _ (r .sensors) s (counted _ s (q 0) .0))
 shape-shaped d (placing b start n) f q r =

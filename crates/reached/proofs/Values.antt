@@ -1,11 +1,12 @@
 -- The values that a drive's rules ask for: the record `DriveValues`.
 use Prim.Native.Nat.{ℕ}
 use mathlib.Core.Path.{_≡_, refl, ap, _∙_}
-use mathlib.Core.Bool.{Bool}
 use mathlib.Core.List.{List, [], _∷_, map}
 use Rattle.sensor.specs.declared.single.Sensor.{Sensor}
 use Rattle.sensor.proofs.Motion.{fresh-condition}
 use Rattle.expression.specs.Elements.{elementsIn}
+use Rattle.evaluator.specs.declared.Evaluation.{Evaluation}
+use Rattle.evaluator.specs.Value.{isTrue}
 use Rattle.limit.specs.Limit.{ownConditions, testedValue}
 use Rattle.limit.proofs.Limit.{own-at, limit-test}
 use Rattle.band.specs.declared.Row.{Row}
@@ -23,14 +24,14 @@ unfolding conditionsOf
 row-value d row = limit-test .values-stay (d .«sensor_count») (d .sensors) (elementsIn (row .expression))
 
 -- all rows, each locked under its value
-rows-settle : (d : Drive) (l : List Row) → map (settleRow (conditionsOf d)) l ≡ map (λ row. lockUnder (valueOn d row) row) l
+rows-settle : (d : Drive) (l : List Row) → map (settleRow (conditionsOf d)) l ≡ map (λ row. lockUnder (isTrue (valueOn d row)) row) l
 unfolding settleRow
 rows-settle d [] = refl
 rows-settle d (row ∷ l) =
-    ap (λ (v : Bool). lockUnder v row ∷ map (settleRow (conditionsOf d)) l) (row-value d row)
-    ∙ ap (λ (m : List Row). lockUnder (valueOn d row) row ∷ m) (rows-settle d l)
+    ap (λ (v : Evaluation). lockUnder (isTrue v) row ∷ map (settleRow (conditionsOf d)) l) (row-value d row)
+    ∙ ap (λ (m : List Row). lockUnder (isTrue (valueOn d row)) row ∷ m) (rows-settle d l)
 
-settles : (d : Drive) → settleOf d ≡ withRows (map (λ row. lockUnder (valueOn d row) row) (d .rows)) d
+settles : (d : Drive) → settleOf d ≡ withRows (map (λ row. lockUnder (isTrue (valueOn d row)) row) (d .rows)) d
 unfolding settleOf
 settles d = ap (λ (l : List Row). withRows l d) (rows-settle d (d .rows))
 

@@ -2,3 +2,4 @@ pub mod Reached
 pub mod Starred
 pub mod Readings
 pub mod Values
+pub mod Door

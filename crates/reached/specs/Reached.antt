@@ -1,8 +1,9 @@
 -- What holds of every drive that events reach from the fresh drive of a header in range.
 use Prim.Native.Nat.{ℕ, _≤_}
 use mathlib.Core.Path.{_≡_}
-use mathlib.Core.Bool.{false}
+use mathlib.Core.Bool.{true, false}
 use mathlib.Core.List.{List, [], _∷_}
+use mathlib.Core.Logic.{_⊎_}
 use lib.ListN.{length, getD}
 use Rattle.base.specs.Lists.{Bytes}
 use Rattle.sensor.specs.Single.{freshSensor}
@@ -11,6 +12,7 @@ use Rattle.sensor.specs.Sound.{Sound, UpToDate}
 use Rattle.expression.specs.declared.Element.{Element}
 use Rattle.expression.specs.declared.Expression.{Expression}
 use Rattle.expression.specs.Elements.{mostElements, expressionOf, AllFit}
+use Rattle.evaluator.specs.Formed.{wellFormed}
 use Rattle.band.specs.declared.Row.{Row}
 use Rattle.band.specs.Rows.{freshRow, allResets}
 use Rattle.geometry.specs.Blocks.{bandSpans, overlapping}
@@ -38,11 +40,13 @@ pub record Stored (x : Expression) : Type 0 where
   pub few : length list ≤ mostElements
   -- references with "four row bytes", and the operators "00 AND, 01 OR or 02 NOT"
   pub fit : AllFit list
+  -- document 02, #104: "A Set with a malformed, non-empty expression is now refused.": it is empty or well formed
+  pub formed : (list ≡ []) ⊎ (wellFormed list ≡ true)
 
 pub record RowFits (row : Row) : Type 0 where
   -- "LockOnReset (a set as bits: .. 0 to 7)"
   pub «lock_on_reset» : row .«lock_on_reset» ≤ allResets
-  -- "Empty or malformed is stored" too
+  -- "its expression is the stored list of elements"
   pub expression : Stored (row .expression)
 
 pub record SensorFits (s : Sensor) : Type 0 where

@@ -1,9 +1,10 @@
--- Document 01, 'Points worked by hand; a star means proved': the starred cases, over the definitions that the contracts cite.
+-- Document 01, 'Points worked by hand; a star means proved': the starred cases, as document 02 amends them, over the definitions that the contracts cite.
 use Prim.Native.Nat.{ℕ}
 use mathlib.Core.Path.{_≡_}
 use mathlib.Core.Bool.{Bool, true, false, cond, Bool·beq}
 use mathlib.Core.List.{List, [], _∷_}
 use lib.ListN.{length, getD}
+use Rattle.base.specs.Rows.{isRow}
 use Rattle.base.specs.Ticks.{ticks}
 use Rattle.phases.specs.Phases.{isEnabled}
 use Rattle.sensor.specs.declared.single.Sensor.{Sensor}
@@ -12,13 +13,14 @@ use Rattle.sensor.specs.Single.{freshSensor, onOf, offOf, readingOf, turnedTo}
 use Rattle.sensor.specs.Single.{sensorTick}
 use Rattle.expression.specs.declared.Part.the-variants.{Reference, Operator}
 use Rattle.expression.specs.declared.Element.{Element}
-use Rattle.expression.specs.Elements.{element, elementsIn}
+use Rattle.expression.specs.Elements.{element}
+use Rattle.evaluator.specs.declared.Evaluation.the-variants.{True, False, Malformed}
 use Rattle.evaluator.specs.Value.{valueOf}
 use Rattle.token_reader.specs.Format.{bytesOf}
 use Rattle.token_reader.specs.Read.{readTokens, elements}
 use Rattle.band_columns.specs.declared.BandColumns.{BandColumns}
 use Rattle.drive.specs.declared.Drive.{Drive}
-use Rattle.drive.specs.State.{freshDrive, rowAt}
+use Rattle.drive.specs.State.{freshDrive}
 use Rattle.drive.specs.Events.{reading, elapse, sensorSet, bandSet, geometry, transfer, answerOf, stepOf, stopsOf, runOf}
 
 abbrev pub row : ℕ → Element
@@ -75,15 +77,15 @@ pub record Starred : Type 0 where
   pub takes-74 : length (bytesOf (row 2 ∷ row 1 ∷ AND ∷ row 3 ∷ OR ∷ row 0 ∷ AND ∷ [])) ≡ 74
   -- "F0 F1 is FALSE.": it reads to no elements, and their value is FALSE whatever the conditions
   pub empty-reads : readTokens (0xF0 ∷ 0xF1 ∷ []) ≡ elements []
-  pub empty-false : (conditions : List Bool) → valueOf conditions [] ≡ false
-  -- "AND alone is FALSE"
+  pub empty-false : (conditions : List Bool) → valueOf conditions [] ≡ False
+  -- document 02, #104: "The case of AND alone is amended.": it reads as tokens, and evaluation says malformed
   pub and-reads : readTokens andTokens ≡ elements (AND ∷ [])
-  pub and-false : (conditions : List Bool) → valueOf conditions (AND ∷ []) ≡ false
-  -- ", and stored.": a Set of it is done, and the band's list is that one element
-  pub and-done : answerOf small (bandSet 1 expressionAlone andTokens) ≡ 0
-  pub and-stored : elementsIn (rowAt (stepOf small (bandSet 1 expressionAlone andTokens)) 1 .expression) ≡ AND ∷ []
+  pub and-malformed : (conditions : List Bool) → valueOf conditions (AND ∷ []) ≡ Malformed
+  -- a Set of it is refused with 13 on every drive that has the band, and the drive stays as it was, with the band's row
+  pub and-refused : (d : Drive) (band : ℕ) → isRow (d .«band_count») band ≡ true → answerOf d (bandSet band expressionAlone andTokens) ≡ 13
+  pub and-kept : (d : Drive) (band : ℕ) → stepOf d (bandSet band expressionAlone andTokens) ≡ d
   -- "NOT of row 99 is TRUE."
-  pub not-99 : (conditions : List Bool) → length conditions ≡ 16 → valueOf conditions (row 99 ∷ NOT ∷ []) ≡ true
+  pub not-99 : (conditions : List Bool) → length conditions ≡ 16 → valueOf conditions (row 99 ∷ NOT ∷ []) ≡ True
   -- "On = Off = 5,000: 4,999 FALSE, 5,000 TRUE.": the level after the reading, whatever it was
   pub below-both : (s : Sensor) → onOf s ≡ 5000 → offOf s ≡ 5000 → readingOf 4999 s .level ≡ false
   pub at-both : (s : Sensor) → onOf s ≡ 5000 → offOf s ≡ 5000 → readingOf 5000 s .level ≡ true

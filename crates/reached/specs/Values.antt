@@ -2,9 +2,10 @@
 -- `drive-values` in proofs/Values).
 use Prim.Native.Nat.{ℕ}
 use mathlib.Core.Path.{_≡_}
-use mathlib.Core.Bool.{Bool}
 use mathlib.Core.List.{map}
 use Rattle.expression.specs.Elements.{elementsIn}
+use Rattle.evaluator.specs.declared.Evaluation.{Evaluation}
+use Rattle.evaluator.specs.Value.{isTrue}
 use Rattle.limit.specs.Limit.{ownConditions, testedValue}
 use Rattle.band.specs.declared.Row.{Row}
 use Rattle.band.specs.Rows.{lockUnder, valueIn}
@@ -16,7 +17,7 @@ use Rattle.drive.specs.Events.{heldUnder}
 use Rattle.reached.specs.Reached.{Reached}
 
 -- the value of a row's expression on a drive, with the test inside the walk
-abbrev pub valueOn : Drive → Row → Bool
+abbrev pub valueOn : Drive → Row → Evaluation
 valueOn d row = testedValue (d .«sensor_count») (d .sensors) (elementsIn (row .expression))
 
 pub record DriveValues : Type 0 where
@@ -25,7 +26,7 @@ pub record DriveValues : Type 0 where
   -- the value of a band, as the listing has it
   pub band-value : (d : Drive) (band : ℕ) → valueAt d band ≡ valueOn d (rowAt d band)
   -- the settling of the bands
-  pub settles : (d : Drive) → settleOf d ≡ withRows (map (λ row. lockUnder (valueOn d row) row) (d .rows)) d
+  pub settles : (d : Drive) → settleOf d ≡ withRows (map (λ row. lockUnder (isTrue (valueOn d row)) row) (d .rows)) d
   -- whether a Set is held
   pub held : (d : Drive) (c : BandColumns) (new : Row) → heldUnder (conditionsOf d) c new ≡ heldBy c new (valueOn d new)
   -- on a drive that events reach the conditions are the sensors' own: no script has a sensor at or above the count that is TRUE

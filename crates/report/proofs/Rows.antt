@@ -10,15 +10,17 @@ use Rattle.base.specs.Rows.{Takes}
 use Rattle.phases.specs.Phases.{phaseNumber}
 use Rattle.sensor.specs.declared.single.Sensor.{Sensor}
 use Rattle.sensor.specs.Single.{freshSensor}
+use Rattle.evaluator.specs.declared.Evaluation.{Evaluation}
+use Rattle.evaluator.specs.Value.{isTrue}
 use Rattle.band.specs.declared.Row.{Row}
 use Rattle.band.specs.Rows.{freshRow, valueIn}
 use Rattle.report.specs.Lines.{line, bandLine, sensorLine}
 use Rattle.report.specs.Parts.{Puts, Room}
 
-module _ (number : ℕ) (row : Row) (conditions : List Bool) (value : Bool) (a b v : ℕ) (p : value ≡ valueIn conditions row) (q : a ≡ oneIf (row .«read_locked»))
-    (r : b ≡ oneIf (row .«write_locked»)) (s : v ≡ oneIf value) where
+module _ (number : ℕ) (row : Row) (conditions : List Bool) (value : Evaluation) (t : Bool) (a b v : ℕ) (p : value ≡ valueIn conditions row) (q : a ≡ oneIf (row .«read_locked»))
+    (r : b ≡ oneIf (row .«write_locked»)) (u : t ≡ isTrue value) (s : v ≡ oneIf t) where
   band-is : line 98 (number ∷ a ∷ b ∷ v ∷ []) ≡ bandLine number row (valueIn conditions row)
-  band-is = rw (q, r, s, p)
+  band-is = rw (q, r, s, u, p)
 
   pub band-room : (at : ℕ) (d : List ℕ) → Room (bandLine number row (valueIn conditions row)) at d → Room (line 98 (number ∷ a ∷ b ∷ v ∷ [])) at d
   band-room at d h = omega (arith, h, ap length band-is)

@@ -7,7 +7,7 @@ use mathlib.Core.Bool.{Bool, true, false, cond}
 use mathlib.Core.List.{List, [], _∷_}
 use lib.Dec.{eqb, ltb}
 use lib.ListN.{length, getD, length-append}
-use borrow.Author.Tests.{ltb-true, ltb-false}
+use borrow.Author.Tests.{ltb-true, ltb-false, eqb-true}
 use Rattle.base.specs.Lists.{oneIf}
 use Rattle.base.specs.Ticks.{stops}
 use Rattle.base.proofs.Cases.{cond-either}
@@ -19,6 +19,8 @@ use Rattle.sensor.specs.declared.single.Sensor.{Sensor}
 use Rattle.sensor.specs.Single.{freshSensor, runs}
 use Rattle.sensor.specs.Sound.{Timed}
 use Rattle.sensor_set.proofs.Keeping.{keeps-timed}
+use Rattle.evaluator.specs.declared.Evaluation.{Evaluation}
+use Rattle.evaluator.specs.Value.{isTrue}
 use Rattle.band.specs.declared.Side.the-variants.{Read, Write}
 use Rattle.band.specs.declared.Row.{Row}
 use Rattle.band.specs.Rows.{freshRow, lockedOn, valueIn}
@@ -57,15 +59,19 @@ feed-long = refl
 bit-long : (b : Bool) → length (decimal (oneIf b)) ≤ 1
 bit-long b = few-digits 0 (oneIf b) (omega (arith, oneIf-le b))
 
-pub event-short : (i a s : ℕ) → i < 100000 → a < 10 → s < 100 → length (eventLine i a s) ≤ 13
-event-short i a s h j k =
-    omega (arith, line-long 101 (i ∷ a ∷ s ∷ []), field-long i (a ∷ s ∷ []), field-long a (s ∷ []), field-long s [], feed-long, few-digits 4 i h, few-digits 0 a j, few-digits 1 s k)
+-- the digits of an answer and of the stops beside it are three at most: a refused event has no stops
+abbrev ThreeDigits : ℕ → ℕ → Type 0
+ThreeDigits a s = length (decimal a) + length (decimal s) ≤ 3
 
-band-short : (i : ℕ) (row : Row) (v : Bool) → i < 100 → length (bandLine i row v) ≤ 11
+pub event-short : (i a s : ℕ) → i < 100000 → ThreeDigits a s → length (eventLine i a s) ≤ 13
+event-short i a s h k =
+    omega (arith, line-long 101 (i ∷ a ∷ s ∷ []), field-long i (a ∷ s ∷ []), field-long a (s ∷ []), field-long s [], feed-long, few-digits 4 i h, k)
+
+band-short : (i : ℕ) (row : Row) (v : Evaluation) → i < 100 → length (bandLine i row v) ≤ 11
 band-short i row v h =
     let a = oneIf (lockedOn Read row) in
     let b = oneIf (lockedOn Write row) in
-    let c = oneIf v in
+    let c = oneIf (isTrue v) in
     omega (
       arith,
       line-long 98 (i ∷ a ∷ b ∷ c ∷ []),
@@ -77,7 +83,7 @@ band-short i row v h =
       few-digits 1 i h,
       bit-long (lockedOn Read row),
       bit-long (lockedOn Write row),
-      bit-long v,
+      bit-long (isTrue v),
     )
 
 phase-few : (p : Phase) → phaseNumber p < 10
@@ -125,10 +131,12 @@ lines-short f w (suc n) h =
 abbrev Sixteen : Drive → Type 0
 Sixteen d = length (d .sensors) ≡ 16
 
-stops-sixteen : (d : Drive) (e : Event) → Sixteen d → stopsOf d e < 100
+answered-short : (d : Drive) (e : Event) → Sixteen d → ThreeDigits (answerOf d e) (stopsOf d e)
 unfolding stopsOf
-stops-sixteen d e h =
-    cond-either (λ (n : ℕ). n < 100) (eqb (answerOf d e) 0) (elapsedStops d e) 0 (λ q. elapsed (shapeOf e)) (λ q. omega arith)
+answered-short d e h =
+    cond-either (ThreeDigits (answerOf d e)) (eqb (answerOf d e) 0) (elapsedStops d e) 0
+    (λ q. omega (arith, few-digits 0 (answerOf d e) (omega (arith, eqb-true (answerOf d e) 0 q)), few-digits 1 (elapsedStops d e) (elapsed (shapeOf e))))
+    (λ q. omega (arith, few-digits 1 (answerOf d e) (omega (arith, answer-below d e)), few-digits 0 0 (omega arith)))
   where
     elapsed : (s : Shape) → ifTicking s (λ n. stops tickOf stopNext n d) 0 < 100
     elapsed (ticking n) = omega (arith, stops-few n d, few-counted runs (d .sensors), h)
@@ -139,12 +147,11 @@ stops-sixteen d e h =
     elapsed (looking w start n) = omega arith
 
 -- what an event gets on any drive that is reached
-along-few : (f : Drive → Event → ℕ) (w : ℕ) → 0 < w → ((d : Drive) (e : Event) → Sixteen d → f d e < w) → (d : Drive) (es : List Event) (i : ℕ) → Sixteen d
-    → getD (along f d es) i 0 < w
+along-short : (d : Drive) (es : List Event) (i : ℕ) → Sixteen d → ThreeDigits (getD (answersOf d es) i 0) (getD (stopsIn d es) i 0)
 unfolding along
-along-few f w z h d [] i t = z
-along-few f w z h d (e ∷ es) zero t = h d e t
-along-few f w z h d (e ∷ es) (suc i) t = along-few f w z h (stepOf d e) es i (step-keeps d e .sensors ∙ t)
+along-short d [] i t = omega (arith, few-digits 0 0 (omega arith))
+along-short d (e ∷ es) zero t = answered-short d e t
+along-short d (e ∷ es) (suc i) t = along-short (stepOf d e) es i (step-keeps d e .sensors ∙ t)
 
 -- ---- the place of a bad script
 
@@ -194,8 +201,7 @@ module _ (capacity bands sensors : ℕ) (es : List Event) (fits : headerFits cap
       let h = fresh-reached capacity bands sensors fits .shaped .header in
       let t : Sixteen fresh = refl in
       let e : length (eventLines (answersOf fresh es) (stopsIn fresh es) (length es)) ≤ length es * 13 =
-      lines-short _ 13 (length es) (λ i k. event-short _ _ _ (omega (arith, k, few))
-      (along-few answerOf 10 (omega arith) (λ x y z. answer-below x y) fresh es i t) (along-few stopsOf 100 (omega arith) stops-sixteen fresh es i t)) in
+      lines-short _ 13 (length es) (λ i k. event-short _ _ _ (omega (arith, k, few)) (along-short fresh es i t)) in
       let b : length (bandLines (conditionsOf d) (d .rows) bands) ≤ bands * 11 =
       lines-short _ 11 bands (λ i k. band-short i (getD (d .rows) i freshRow) (valueIn (conditionsOf d) (getD (d .rows) i freshRow)) (omega (arith, k, h .few-bands))) in
       let s : length (sensorLines (d .sensors) sensors) ≤ sensors * 22 =

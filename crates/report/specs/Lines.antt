@@ -8,6 +8,8 @@ use Rattle.base.specs.Lists.{oneIf}
 use Rattle.phases.specs.Phases.{phaseNumber}
 use Rattle.sensor.specs.declared.single.Sensor.{Sensor}
 use Rattle.sensor.specs.Single.{freshSensor}
+use Rattle.evaluator.specs.declared.Evaluation.{Evaluation}
+use Rattle.evaluator.specs.Value.{isTrue}
 use Rattle.band.specs.declared.Side.the-variants.{Read, Write}
 use Rattle.band.specs.declared.Row.{Row}
 use Rattle.band.specs.Rows.{freshRow, lockedOn, valueIn}
@@ -47,9 +49,9 @@ eventLine index answer stops = line 101 (index ∷ answer ∷ stops ∷ [])
 abbrev pub eventLines : List ℕ → List ℕ → ℕ → List ℕ
 eventLines answers stops count = lines (λ i. eventLine i (getD answers i 0) (getD stops i 0)) count
 
--- "Then per band: b, number, ReadLocked, WriteLocked, value." b is 98.
-abbrev pub bandLine : ℕ → Row → Bool → List ℕ
-bandLine number row value = line 98 (number ∷ oneIf (lockedOn Read row) ∷ oneIf (lockedOn Write row) ∷ oneIf value ∷ [])
+-- "Then per band: b, number, ReadLocked, WriteLocked, value." b is 98. The value is 1 for TRUE, else 0.
+abbrev pub bandLine : ℕ → Row → Evaluation → List ℕ
+bandLine number row value = line 98 (number ∷ oneIf (lockedOn Read row) ∷ oneIf (lockedOn Write row) ∷ oneIf (isTrue value) ∷ [])
 
 abbrev pub bandLines : List Bool → List Row → ℕ → List ℕ
 bandLines conditions rows count = lines (λ i. bandLine i (getD rows i freshRow) (valueIn conditions (getD rows i freshRow))) count

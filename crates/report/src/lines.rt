@@ -167,7 +167,7 @@ fn put_band(out: &mut [u8], at: usize, number: usize, row: Row, conditions: [boo
         number as u64,
         bit(row.read_locked),
         bit(row.write_locked),
-        bit(value),
+        bit(value.is_true()),
     ];
     put_line(out, at, b'b', &numbers)
 }

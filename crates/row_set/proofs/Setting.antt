@@ -2,7 +2,7 @@
 use mathlib.Core.Path.{_≡_, refl, sym, ap, ap₂, _∙_}
 use Prim.Native.Nat.{ℕ}
 use native.Mathlib.Omega.{arith}
-use mathlib.Core.Bool.{Bool, true, false, not, cond, _||_}
+use mathlib.Core.Bool.{Bool, true, false, not, cond, _&&_, _||_}
 use mathlib.Core.List.{List, []}
 use mathlib.Core.Logic.{_≢_, inl, ⊎-elim}
 use lib.Dec.{eqb, ltb}
@@ -11,10 +11,15 @@ use borrow.Author.Tests.{eq-eqb, ne-eqb, eqb-false}
 use Rattle.base.specs.Columns.{named}
 use Rattle.base.proofs.Cases.{cond-true, cond-false, neither}
 use Rattle.answer.specs.declared.Answer.{Answer}
-use Rattle.answer.specs.declared.Answer.the-variants.{Done, OutOfRange, Held}
+use Rattle.answer.specs.declared.Answer.the-variants.{Done, OutOfRange, Held, Malformed}
 use Rattle.answer.specs.Numbers.{numberOf}
 use Rattle.expression.specs.declared.Expression.{Expression}
-use Rattle.expression.specs.Elements.{expressionOf}
+use Rattle.expression.specs.Elements.{elementsIn, expressionOf}
+use Rattle.evaluator.specs.declared.Evaluation.{Evaluation}
+use Rattle.evaluator.specs.declared.Evaluation.the-variants as E
+use Rattle.evaluator.specs.Value.{conditionAt, valueOf}
+use Rattle.evaluator.specs.Formed.{malformed, isMalformed}
+use Rattle.evaluator.proofs.Formed.{judged}
 use Rattle.token_reader.specs.declared.Tokens.{Tokens}
 use Rattle.token_reader.specs.Read.{mostTokenBytes, readTokens, expressionIn, answerIn, Reads}
 use Rattle.token_reader.proofs.Numbers.{DoneOrBroken, read-numbers}
@@ -23,10 +28,10 @@ use Rattle.band_columns.specs.declared.BandColumns.{BandColumns}
 use Rattle.band.specs.Rows.{valueIn}
 use Rattle.band_columns.specs.Sets.{formedRow, heldBy}
 use Rattle.band_columns.specs.Sets.{columnsFit as bandColumnsFit}
-use Rattle.drive.specs.Events.{tokensAnswer, formedFrom, heldUnder}
+use Rattle.drive.specs.Events.{tokensAnswer, formedFrom, malformedIn, heldUnder}
 use Rattle.row_set.specs.declared.RowAnswer.{RowAnswer}
 use Rattle.row_set.specs.Forming.{rowAnswer, SetsRow}
-use Rattle.row_set.specs.Parts.{TokensFor, Forms}
+use Rattle.row_set.specs.Parts.{TokensFor, formAnswer, Forms}
 
 pub columns-unfit : (c : BandColumns) (bytes : List ℕ) (t : Bool) → t ≡ bandColumnsFit c → t ≡ false → true ≡ (not (bandColumnsFit c) || ltb mostTokenBytes (length bytes))
 columns-unfit c bytes t p e = sym (ap (λ (x : Bool). not x || ltb mostTokenBytes (length bytes)) (sym p ∙ e))
@@ -48,21 +53,62 @@ tokens-unread c bytes x t p e h = record {
   expression = cond-false (named 32 (c .mask)) _ _ _ (sym p ∙ e) h;
 }
 
-module _ (cs : List Bool) (c : BandColumns) (x : Expression) (row new : Row) (v t : Bool) (en : new ≡ formedRow c x row) (ev : v ≡ valueIn cs new) (et : t ≡ heldBy c new v) where
-  tested : t ≡ heldUnder cs c (formedRow c x row)
-  tested = et ∙ ap (heldBy c new) ev ∙ ap (heldUnder cs c) en
+-- whether a Set is refused as malformed, by the three
+pub not-malformed : (n : Bool) (v w : Evaluation) → isMalformed w ≡ false → v ≡ w → false ≡ (n && isMalformed v)
+not-malformed n v w q e = go n ∙ ap (λ (b : Bool). n && b) (sym (ap isMalformed e ∙ q))
+  where
+    go : (b : Bool) → false ≡ (b && false)
+    go true = refl
+    go false = refl
 
-  pub row-held : t ≡ true → Forms cs c x row (record { answer = Held; row = row })
-  row-held e = record {
-    answer = cond-true (heldUnder cs c (formedRow c x row)) _ _ _ (sym tested ∙ e) refl;
-    after = cond-true (heldUnder cs c (formedRow c x row)) _ _ _ (sym tested ∙ e) refl;
+pub is-malformed : (n t : Bool) (v : Evaluation) → v ≡ E.Malformed → t ≡ n → t ≡ (n && isMalformed v)
+is-malformed n t v e q = q ∙ go n ∙ ap (λ (b : Bool). n && b) (sym (ap isMalformed e))
+  where
+    go : (b : Bool) → b ≡ (b && true)
+    go true = refl
+    go false = refl
+
+-- the new row's value is malformed where the Set names a malformed expression, whatever the conditions
+formed-malformed : (cs : List Bool) (c : BandColumns) (x : Expression) (row : Row)
+    → (named 32 (c .mask) && isMalformed (valueIn cs (formedRow c x row))) ≡ (named 32 (c .mask) && malformed (elementsIn x))
+unfolding formedRow valueOf
+formed-malformed cs c x row = go (named 32 (c .mask))
+  where
+    go : (b : Bool) → (b && isMalformed (valueOf cs (elementsIn (cond b x (row .expression))))) ≡ (b && malformed (elementsIn x))
+    go true = judged (conditionAt cs) (elementsIn x)
+    go false = refl
+
+module _ (cs : List Bool) (c : BandColumns) (x : Expression) (row new : Row) (v : Evaluation) (m : Bool) (en : new ≡ formedRow c x row)
+    (ev : v ≡ valueIn cs new) (em : m ≡ (named 32 (c .mask) && isMalformed v)) where
+  broken-is : m ≡ (named 32 (c .mask) && malformed (elementsIn x))
+  broken-is =
+      em
+      ∙ ap (λ (w : Evaluation). named 32 (c .mask) && isMalformed w) (ev ∙ ap (valueIn cs) en)
+      ∙ formed-malformed cs c x row
+
+  -- a refusal, and the new row, by the answer
+  kept : (a : Answer) → numberOf a ≡ formAnswer cs c x row → eqb (numberOf a) 0 ≡ false → Forms cs c x row (record { answer = a; row = row })
+  kept a p z = record {
+    answer = p;
+    after = cond-false (eqb (formAnswer cs c x row) 0) _ _ _ (ap (λ (n : ℕ). eqb n 0) (sym p) ∙ z) refl;
   }
 
-  pub row-formed : t ≡ false → Forms cs c x row (record { answer = Done; row = new })
-  row-formed e = record {
-    answer = cond-false (heldUnder cs c (formedRow c x row)) _ _ _ (sym tested ∙ e) refl;
-    after = cond-false (heldUnder cs c (formedRow c x row)) _ _ _ (sym tested ∙ e) en;
-  }
+  pub row-malformed : m ≡ true → Forms cs c x row (record { answer = Malformed; row = row })
+  row-malformed e = kept Malformed (cond-true (named 32 (c .mask) && malformed (elementsIn x)) 13 _ _ (sym broken-is ∙ e) refl) refl
+
+  module _ (t : Bool) (et : t ≡ heldBy c new v) (e : m ≡ false) where
+    rest : cond t 8 0 ≡ formAnswer cs c x row
+    rest =
+        ap (λ (b : Bool). cond b 8 0) (et ∙ ap (heldBy c new) ev ∙ ap (heldUnder cs c) en)
+        ∙ cond-false (named 32 (c .mask) && malformed (elementsIn x)) 13 _ _ (sym broken-is ∙ e) refl
+
+    pub row-held : t ≡ true → Forms cs c x row (record { answer = Held; row = row })
+    row-held q = kept Held (ap (λ (b : Bool). cond b 8 0) (sym q) ∙ rest) refl
+
+    pub row-formed : t ≡ false → Forms cs c x row (record { answer = Done; row = new })
+    row-formed q =
+        let p : 0 ≡ formAnswer cs c x row = ap (λ (b : Bool). cond b 8 0) (sym q) ∙ rest in
+        record { answer = p; after = cond-true (eqb (formAnswer cs c x row) 0) _ _ _ (ap (λ (n : ℕ). eqb n 0) (sym p)) en }
 
 -- the expression that is formed, where the Set names one and where it does not
 formed-from : (c : BandColumns) (bytes : List ℕ) (x : Expression) (row : Row)
@@ -106,12 +152,13 @@ module _ (cs : List Bool) (c : BandColumns) (bytes : List ℕ) (row : Row) (u : 
     k : ℕ
     k = tokensAnswer c bytes
 
-    isIt : Bool
-    isIt = heldUnder cs c (formedFrom c bytes row)
+    -- the answer, once the bytes read
+    end : ℕ
+    end = cond (malformedIn c bytes) 13 (cond (heldUnder cs c (formedFrom c bytes row)) 8 0)
 
     -- the answer, once the fields fit
-    left : cond (eqb k 3) 3 (cond (eqb k 4) 4 (cond isIt 8 0)) ≡ rowAnswer cs c bytes row
-    unfolding rowAnswer k isIt
+    left : cond (eqb k 3) 3 (cond (eqb k 4) 4 end) ≡ rowAnswer cs c bytes row
+    unfolding rowAnswer k end
     left = cond-false (not (bandColumnsFit c) || ltb mostTokenBytes (length bytes)) 2 _ _ (sym pu ∙ eu) refl
 
     numbers : DoneOrBroken k
@@ -124,7 +171,7 @@ module _ (cs : List Bool) (c : BandColumns) (bytes : List ℕ) (row : Row) (u : 
     unfolding k
     is-k = h .answer
 
-    broken : DoneOrBroken k → (k ≡ 0 → ⊥) → k ≡ cond (eqb k 3) 3 (cond (eqb k 4) 4 (cond isIt 8 0))
+    broken : DoneOrBroken k → (k ≡ 0 → ⊥) → k ≡ cond (eqb k 3) 3 (cond (eqb k 4) 4 end)
     broken n z =
         ⊎-elim (λ q. absurd (z q))
         (λ s. ⊎-elim
@@ -138,22 +185,28 @@ module _ (cs : List Bool) (c : BandColumns) (bytes : List ℕ) (row : Row) (u : 
         let z : eqb (numberOf (r .answer)) 0 ≡ false = ap (λ (m : ℕ). eqb m 0) (sym en) ∙ ne-eqb n 0 e in
         refused (r .answer) (is-k ∙ broken numbers (λ s. eqb-false (numberOf (r .answer)) 0 z (is-k ∙ s)) ∙ left) z
 
-    whole : k ≡ 0 → cond isIt 8 0 ≡ rowAnswer cs c bytes row
+    whole : k ≡ 0 → end ≡ rowAnswer cs c bytes row
     whole z =
         cond-false (eqb k 3) 3 _ _ (ne-eqb k 3 (omega arith)) (cond-false (eqb k 4) 4 _ _ (ne-eqb k 4 (omega arith)) refl) ∙ left
 
-    flip : (x : Bool) (y z : Row) → cond x y z ≡ cond (eqb (cond x 8 0) 0) z y
-    flip true y z = refl
-    flip false y z = refl
+    -- the expression that is judged is the one that the bytes read to
+    judged-by : (named 32 (c .mask) && malformed (elementsIn (r .expression))) ≡ malformedIn c bytes
+    judged-by =
+        ap (λ (x : Expression). named 32 (c .mask) && malformed (elementsIn x)) (h .expression)
+        ∙ once (named 32 (c .mask)) (expressionIn (readTokens bytes)) (expressionOf [])
+      where
+        once : (b : Bool) (x y : Expression) → (b && malformed (elementsIn (cond b x y))) ≡ (b && malformed (elementsIn x))
+        once true x y = refl
+        once false x y = refl
 
     pub set-formed : (n : ℕ) (q : RowAnswer) → n ≡ numberOf (r .answer) → n ≡ 0 → Forms cs c (r .expression) row q → SetsRow cs c bytes row q
-    unfolding isIt
+    unfolding end
     set-formed n q en e s =
         let z : k ≡ 0 = sym is-k ∙ sym en ∙ e in
         let f : formedRow c (r .expression) row ≡ formedFrom c bytes row = formed-from c bytes (r .expression) row (h .expression) in
-        let i : heldUnder cs c (formedRow c (r .expression) row) ≡ isIt = ap (heldUnder cs c) f in
-        let w : cond isIt 8 0 ≡ rowAnswer cs c bytes row = whole z in
+        let i : formAnswer cs c (r .expression) row ≡ rowAnswer cs c bytes row =
+        ap₂ (λ (a b : Bool). cond a 13 (cond b 8 0)) judged-by (ap (heldUnder cs c) f) ∙ whole z in
         record {
-          answer = s .answer ∙ ap (λ (x : Bool). cond x 8 0) i ∙ w;
-          after = s .after ∙ ap₂ (λ (x : Bool) (y : Row). cond x row y) i f ∙ flip isIt row (formedFrom c bytes row) ∙ ap (λ (m : ℕ). cond (eqb m 0) (formedFrom c bytes row) row) w;
+          answer = s .answer ∙ i;
+          after = s .after ∙ ap₂ (λ (m : ℕ) (y : Row). cond (eqb m 0) y row) i f;
         }

@@ -1,4 +1,4 @@
--- Document 01, 'Bands': "A Set forms the new row; .. it is refused (8). Otherwise it is stored."
+-- Document 01, 'Bands': "A Set forms the new row; .. it is refused (8). Otherwise it is stored."; document 02, #104: 13.
 use Prim.Native.Nat.{ℕ}
 use mathlib.Core.Path.{_≡_}
 use mathlib.Core.Bool.{Bool, cond}

@@ -3,7 +3,7 @@
 use mathlib.Core.Path.{_≡_, refl}
 use mathlib.Core.Bool.{Bool, true, false, not, cond, true≢false}
 use lib.Dec.{eqb}
-use Rattle.base.proofs.Refusals.{numbersBelow, risingFrom}
+use Rattle.base.proofs.Refusals.{numbersBelow, pastEvents, risingFrom}
 use Rattle.sensor.specs.declared.single.Sensor.{Sensor}
 use Rattle.sensor_set.specs.declared.SensorColumns.{SensorColumns}
 use Rattle.sensor_set.specs.declared.SensorEvent.{SensorEvent}
@@ -23,11 +23,11 @@ pub event-refused : (x : SensorEvent) (s : Sensor) → eqb (sensorAnswer x) 0 �
 event-refused (E.Reading v) s e = reading-refused v s e
 event-refused (E.Set c) s e = set-refused c s e
 
--- the numbers that they can get, after 1: above it and below 10, and they rise
-pub sensor-numbers : (x : SensorEvent) → numbersBelow 10 (sensorRefusals x) ≡ true
+-- the numbers that they can get, after 1: events' numbers, in their order
+pub sensor-numbers : (x : SensorEvent) → numbersBelow pastEvents (sensorRefusals x) ≡ true
 sensor-numbers (E.Reading v) = refl
 sensor-numbers (E.Set c) = refl
 
-pub sensor-rises : (x : SensorEvent) → risingFrom 2 (sensorRefusals x) ≡ true
+pub sensor-rises : (x : SensorEvent) → risingFrom 3 (sensorRefusals x) ≡ true
 sensor-rises (E.Reading v) = refl
 sensor-rises (E.Set c) = refl

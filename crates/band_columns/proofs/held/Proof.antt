@@ -2,6 +2,9 @@ use borrow.Author.Needs.{needs}
 use Rattle.band_columns.proofs.held.Statement.{statement}
 use Rattle.band_columns.proofs.held.Tie as tie
 
+is-true-requires : tie.Need-is-true-requires
+is-true-requires c κs = search needs
+
 names-zero-requires : tie.Need-names-zero-requires
 names-zero-requires c κs = search needs
 
@@ -33,12 +36,14 @@ returns c =
       c .before .before .before .before .and2 .ensures,
       c .before .before .before .before .before .and .ensures,
       c .before .before .before .before .before .before .names-zero .ensures,
+      c .before .before .before .before .before .before .before .is-true .ensures,
     )
 
 pub held-spec : {M : Type 1} → statement M
 held-spec =
     tie.close
     (tie.spec
+    is-true-requires
     names-zero-requires
     and-requires
     and-requires-2

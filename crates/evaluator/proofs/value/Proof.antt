@@ -1,4 +1,5 @@
 use borrow.Author.Needs.{needs}
+use Rattle.evaluator.proofs.Mentions.{none-taken}
 use Rattle.evaluator.proofs.Runs.{Ran, start, room, again, done, done-all}
 use Prim.Native.Nat.{_-_}
 use Rattle.evaluator.proofs.value.Statement.{statement}
@@ -10,11 +11,17 @@ Inv-loop count elements conditions stack₀ i₀ stack i = Ran elements conditio
 abbrev μ-loop : tie.MeasureT-loop
 μ-loop count elements conditions stack₀ i₀ stack i = 32 - i
 
+returns : tie.Need-returns Inv-loop μ-loop
+returns c = search none-taken
+
 loop-holds : tie.Need-loop-holds Inv-loop μ-loop
 loop-holds c = search (start, needs)
 
-returns : tie.Need-returns Inv-loop μ-loop
-returns c = search done
+end-of-requires : tie.Need-end-of-requires Inv-loop μ-loop
+end-of-requires c κs = search needs
+
+returns-2 : tie.Need-returns-2 Inv-loop μ-loop
+returns-2 c = search (done, c .end-of .ensures)
 
 mul-e : tie.Need-mul-e Inv-loop μ-loop
 mul-e c = search needs
@@ -37,8 +44,11 @@ loop-less c = search needs
 loop-again : tie.Need-loop-again Inv-loop μ-loop
 loop-again c = search (again, c .step .ensures, needs)
 
-returns-2 : tie.Need-returns-2 Inv-loop μ-loop
-returns-2 c = search done-all
+end-of-requires-2 : tie.Need-end-of-requires-2 Inv-loop μ-loop
+end-of-requires-2 c κs = search needs
+
+returns-3 : tie.Need-returns-3 Inv-loop μ-loop
+returns-3 c = search (done-all, c .end-of2 .ensures)
 
 pub value-spec : {M : Type 1} → statement M
 value-spec =
@@ -46,8 +56,10 @@ value-spec =
     (tie.spec
     Inv-loop
     μ-loop
-    loop-holds
     returns
+    loop-holds
+    end-of-requires
+    returns-2
     mul-e
     array-copy-out-e
     slice-aggregate-step
@@ -55,4 +67,5 @@ value-spec =
     add-i
     loop-less
     loop-again
-    returns-2)
+    end-of-requires-2
+    returns-3)

@@ -1,6 +1,7 @@
 //! What the tests reached: answers, stops, moves of phases and levels, Sets of thresholds, places, and ways to be bad.
 use crate::discovery::Written;
 use crate::scripts::{Damage, DAMAGES};
+use crate::tokens::Broken;
 use std::collections::{BTreeMap, BTreeSet};
 
 const PHASES: [&str; 5] = ["SS0", "ST0", "SS1", "ST1", "SS2"];
@@ -54,22 +55,29 @@ pub enum Found {
     OtherReset,
 }
 
+/// What a Set with a malformed expression can get (#104): a number that comes before, or 13.
+const MALFORMED: [u8; 3] = [1, 2, 13];
+
 #[derive(Default)]
 pub struct Coverage {
     scripts: u64,
     bad: u64,
     events: u64,
     /// Of events, and of calls.
-    answers: [u64; 10],
-    calls: [u64; 12],
+    answers: [u64; 14],
+    calls: [u64; 14],
     /// Of events on bad scripts.
-    bad_events: [u64; 12],
+    bad_events: [u64; 14],
     stops: BTreeMap<u8, u64>,
     moves: BTreeMap<(u64, u8, u8), u64>,
     stays: [u64; 5],
     turns: BTreeMap<(u64, u8), u64>,
     /// By what the Set finds, and whether a reading was refused after that.
     thresholds: BTreeMap<(Found, bool), u64>,
+    /// Sets whose expression is malformed, by why, by whether they would unlock an enabled side of the band, and by the answer.
+    malformed: BTreeMap<(Broken, bool, u8), u64>,
+    /// Sets that empty an expression.
+    emptied: u64,
     places: BTreeSet<usize>,
     at_zero: u64,
     damages: BTreeMap<Damage, [u64; 2]>,
@@ -127,6 +135,18 @@ impl Coverage {
         *self.thresholds.entry((found, refused)).or_default() += 1;
     }
 
+    /// A Set whose expression is malformed.
+    pub fn malformed(&mut self, why: Broken, unlocks: bool, answer: u8) {
+        assert!(MALFORMED.contains(&answer), "a malformed expression is answered {answer}");
+        *self.malformed.entry((why, unlocks, answer)).or_default() += 1;
+    }
+
+    /// A Set whose expression is empty.
+    pub fn emptied(&mut self, answer: u8) {
+        assert_ne!(answer, 13, "an empty expression is not malformed");
+        self.emptied += (answer == 0) as u64;
+    }
+
     pub fn damage(&mut self, how: Damage, bad: Option<usize>) {
         self.damages.entry(how).or_default()[bad.is_some() as usize] += 1;
     }
@@ -134,7 +154,7 @@ impl Coverage {
     /// Prints what the scripts reached, and fails where something was not.
     pub fn finish(&self) {
         println!("\nscripts compared: {}, of them bad: {}; events: {}", self.scripts, self.bad, self.events);
-        println!("answers to events, 0 to 9: {:?}", self.answers);
+        println!("answers to events, 0 to 13: {:?}", self.answers);
         println!(
             "answers of runs: {} done, {} bad script, {} short buffer",
             self.calls[0], self.calls[10], self.calls[11]
@@ -150,13 +170,21 @@ impl Coverage {
         for ((found, refused), n) in &self.thresholds {
             println!("threshold set, found {found:?}, a reading refused since: {refused}: {n}");
         }
+        for ((why, unlocks, answer), n) in &self.malformed {
+            println!("malformed expression, {why:?}, names an unlock: {unlocks}, answered {answer}: {n}");
+        }
+        println!("expressions emptied: {}", self.emptied);
         let last = self.places.last().unwrap();
         println!("places: {} at 0, {} different ones, the last {last}", self.at_zero, self.places.len());
         for (how, [good, bad]) in &self.damages {
             println!("damage {how:?}: {bad} bad, {good} still read");
         }
         self.discovery.finish();
-        assert!(self.answers.iter().all(|&n| n > 0), "an answer was not reached");
+        for (a, &n) in self.answers.iter().enumerate() {
+            assert_eq!(n > 0, a <= 9 || a == 13, "answer {a} was reached {n} times");
+        }
+        assert_eq!(self.malformed.len(), 4 * 2 * MALFORMED.len(), "a Set of a malformed expression was not reached");
+        assert!(self.emptied > 0, "no expression was emptied");
         assert!(self.calls[0] > 0 && self.calls[10] > 0 && self.calls[11] > 0, "an answer of a run was not reached");
         assert!(MOVES.iter().all(|m| self.moves.contains_key(m)), "a move was not reached");
         assert!(TURNS.iter().all(|t| self.turns.contains_key(t)), "a turn of a disabled sensor was not reached");
@@ -171,14 +199,15 @@ impl Coverage {
 
     /// The same of tokens read and written: 0, 2, 3, 4 and 11.
     pub fn tokens(&self) {
-        println!("\nanswers of token calls, 0 to 11: {:?}", self.calls);
+        println!("\nanswers of token calls, 0 to 13: {:?}", self.calls);
+        assert_eq!(self.calls[13], 0, "the token reader and writer never give 13");
         assert!([0, 2, 3, 4, 11].iter().all(|&a| self.calls[a] > 0), "an answer of a token call was not reached");
     }
 
-    /// The same of single events: all answers but 11, and on a bad script 1 to 6 and 10.
+    /// The same of single events: all answers but 11 and 12, and on a bad script 1 to 6, 13 and 10.
     pub fn events(&self) {
-        println!("\nanswers of single events, 0 to 11: {:?}; of them on bad scripts: {:?}", self.calls, self.bad_events);
-        assert!(self.calls[..11].iter().all(|&n| n > 0), "an answer of a single event was not reached");
-        assert!([1, 2, 3, 4, 5, 6, 10].iter().all(|&a| self.bad_events[a] > 0), "an answer on a bad script was not reached");
+        println!("\nanswers of single events, 0 to 13: {:?}; of them on bad scripts: {:?}", self.calls, self.bad_events);
+        assert!((0..=10).chain([13]).all(|a: usize| self.calls[a] > 0), "an answer of a single event was not reached");
+        assert!([1, 2, 3, 4, 5, 6, 10, 13].iter().all(|&a| self.bad_events[a] > 0), "an answer on a bad script was not reached");
     }
 }

@@ -144,7 +144,19 @@ fn note(readings: &mut Readings, event: &Event, answer: u8, reached: &mut Covera
             let (found, refused) = readings[event.fields[0] as usize];
             reached.threshold(found, refused);
         }
+        (5, answer) => note_expression(event, answer, reached),
         _ => {}
+    }
+}
+
+/// Takes note of a band Set with an expression that reads as tokens: a malformed one, or an empty one.
+fn note_expression(event: &Event, answer: u8, reached: &mut Coverage) {
+    let Some(Ok(codes)) = event.tokens.as_deref().map(tokens::read) else { return };
+    if codes.is_empty() {
+        reached.emptied(answer);
+    }
+    if let Some(why) = tokens::broken(&codes) {
+        reached.malformed(why, event.unlocks(), answer);
     }
 }
 
@@ -246,8 +258,8 @@ fn compare_beyond(r: &mut Random, script: &Script, reached: &mut Coverage) {
     reached.answer(got.answer);
 }
 
-/// An event on a bad script: the number from 1 to 6 that it gets on the fresh drive of the greatest header, by the engine, or else 10 and the
-/// place.
+/// An event on a bad script: the number from 1 to 6, or 13, that it gets on the fresh drive of the greatest header, by the engine, or else 10 and
+/// the place.
 fn compare_bad(r: &mut Random, lister: &mut Lister, script: &Script, reached: &mut Coverage) {
     let how = r.pick(&[Damage::UnknownKind, Damage::UnknownMaskBit, Damage::HeaderOutOfRange]);
     let (bytes, known) = scripts::damaged(r, script, how);
@@ -255,7 +267,7 @@ fn compare_bad(r: &mut Random, lister: &mut Lister, script: &Script, reached: &m
     let event = scripts::event(r, header);
     let alone = Script { header: GREATEST, events: vec![event.clone()] };
     let expected = match Listing::of(lister, &alone.bytes()).answers[0] {
-        answer @ 1..=6 => Answered::refused(answer, None),
+        answer @ (1..=6 | 13) => Answered::refused(answer, None),
         _ => Answered::refused(10, known.unwrap()),
     };
     let fields = event.direct(r);
@@ -354,7 +366,9 @@ fn compare_read(lister: &mut Lister, bytes: &[u8], reached: &mut Coverage) {
         }
     }
     if bytes.len() <= 1_024 {
-        assert_eq!(told.answer, by_script(lister, bytes), "{bytes:02x?}");
+        let malformed = tokens::read(bytes).is_ok_and(|codes| tokens::broken(&codes).is_some());
+        let answer = if malformed { 13 } else { told.answer };
+        assert_eq!(answer, by_script(lister, bytes), "{bytes:02x?}");
     }
 }
 

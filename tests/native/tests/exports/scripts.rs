@@ -42,6 +42,12 @@ impl Event {
 }
 
 impl Event {
+    /// Whether a band Set names ReadLockEnabled as 1 and ReadLocked as 0.
+    pub fn unlocks(&self) -> bool {
+        let mask = self.fields[1];
+        mask & 5 == 5 && self.fields[2] == 1 && self.fields[3 + (mask >> 1 & 1) as usize] == 0
+    }
+
     /// Its fields as a direct call takes them: a Set has a value for every column, and those that its mask does not name may be anything.
     pub fn direct(&self, r: &mut Random) -> Vec<u64> {
         let columns = match self.kind {

@@ -56,6 +56,34 @@ pub fn read(bytes: &[u8]) -> Result<Vec<u64>, u8> {
     Ok(codes)
 }
 
+/// Why a list is malformed (#104).
+#[derive(Clone, Copy, Debug, PartialEq, Eq, PartialOrd, Ord)]
+pub enum Broken {
+    AndShort,
+    OrShort,
+    NotShort,
+    /// More than one value is left.
+    MoreLeft,
+}
+
+/// Of a list that is not empty: the first operator that runs short, or what is left. The empty list is not malformed.
+pub fn broken(codes: &[u64]) -> Option<Broken> {
+    let mut values = 0;
+    for &c in codes {
+        let (takes, short) = match c {
+            AND => (2, Broken::AndShort),
+            NOT => (1, Broken::NotShort),
+            c if c > AND => (2, Broken::OrShort),
+            _ => (0, Broken::MoreLeft),
+        };
+        if values < takes {
+            return Some(short);
+        }
+        values += 1 - takes;
+    }
+    (values > 1).then_some(Broken::MoreLeft)
+}
+
 fn row(r: &mut Random, sensors: u64) -> u64 {
     match r.below(12) {
         0 => r.below(20),

@@ -12,8 +12,11 @@ returns c = search set-locks
 value-requires : tie.Need-value-requires
 value-requires c κs = search needs
 
+is-true-requires : tie.Need-is-true-requires
+is-true-requires c κs = search needs
+
 returns-2 : tie.Need-returns-2
 returns-2 c = search value-locks
 
 pub locks-spec : {M : Type 1} → statement M
-locks-spec = tie.close (tie.spec in-set-requires returns value-requires returns-2)
+locks-spec = tie.close (tie.spec in-set-requires returns value-requires is-true-requires returns-2)

@@ -9,6 +9,9 @@ lockable-requires c κs = search needs
 value-requires : tie.Need-value-requires
 value-requires c κs = search needs
 
+is-true-requires : tie.Need-is-true-requires
+is-true-requires c κs = search needs
+
 lock-under-requires : tie.Need-lock-under-requires
 lock-under-requires c κs = search needs
 
@@ -20,4 +23,4 @@ returns-2 c = search not-lockable
 
 pub settle-spec : {M : Type 1} → statement M
 settle-spec =
-    tie.close (tie.spec lockable-requires value-requires lock-under-requires returns returns-2)
+    tie.close (tie.spec lockable-requires value-requires is-true-requires lock-under-requires returns returns-2)

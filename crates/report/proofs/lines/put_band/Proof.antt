@@ -12,6 +12,9 @@ bit-requires c κs = search needs
 bit-requires-2 : tie.Need-bit-requires-2
 bit-requires-2 c κs = search needs
 
+is-true-requires : tie.Need-is-true-requires
+is-true-requires c κs = search needs
+
 bit-requires-3 : tie.Need-bit-requires-3
 bit-requires-3 c κs = search needs
 
@@ -34,6 +37,7 @@ put-band-spec =
     value-requires
     bit-requires
     bit-requires-2
+    is-true-requires
     bit-requires-3
     slice-aggregate-put-line
     put-line-requires
