@@ -1,10 +1,12 @@
 -- How the evaluator holds a stack in the bits of a number.
 use Prim.Native.Nat.{ℕ, _+_, _*_}
 use mathlib.Core.Path.{_≡_}
-use mathlib.Core.Bool.{Bool}
+use mathlib.Core.Bool.{Bool, cond}
 use mathlib.Core.List.{List, [], _∷_}
 use mathlib.Core.Option.{Option, none, some}
+use lib.Dec.{ltb}
 use Rattle.base.specs.Lists.{oneIf}
+use Rattle.expression.specs.Elements.{mostElements}
 use Rattle.evaluator.specs.declared.Evaluation.{Evaluation}
 use Rattle.evaluator.specs.Value.{onStack, endOf}
 
@@ -21,6 +23,10 @@ heldAs (some stack) = bitsOf stack
 -- r is the number after f, where n is the number before it, whatever stack that holds
 abbrev pub Does : (List Bool → Option (List Bool)) → ℕ → ℕ → Type 0
 Does f n r = (stack : Option (List Bool)) → n ≡ heldAs stack → r ≡ heldAs (onStack f stack)
+
+-- the elements that a count counts, of those that there is room for
+abbrev pub atMostAll : ℕ → ℕ
+atMostAll count = cond (ltb count mostElements) count mostElements
 
 -- v is the value at the end, where n is the number there, whatever stack that holds
 abbrev pub Ends : ℕ → Evaluation → Type 0

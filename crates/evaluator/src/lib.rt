@@ -8,7 +8,7 @@ ghost use lib.ListN.{take};
 ghost use Rattle.evaluator.specs.Value.{conditionAt, onTwo, onOne, operatorOf, putElement, valueOf, isTrue};
 ghost use mathlib.Core.List.{_∷_};
 ghost use mathlib.Core.Option.{some};
-ghost use Rattle.evaluator.specs.Parts.{Does, Ends};
+ghost use Rattle.evaluator.specs.Parts.{Does, Ends, atMostAll};
 ghost use Rattle.expression.specs.Elements.{elementsIn};
 use expression::Element;
 use expression::Expression;
@@ -127,6 +127,16 @@ fn end_of(stack: u64) -> Evaluation
     }
 }
 
+// How many elements there are: the count, but no more than there is room for.
+fn at_most_all(count: usize) -> usize
+    ensures { λ r. ⌜ r ≡ atMostAll count ⌝ }
+{
+    if count < Expression::ELEMENTS {
+        return count;
+    }
+    Expression::ELEMENTS
+}
+
 // The value of the first `count` elements under the sixteen conditions.
 pub fn value(elements: [Element; 32], count: usize, conditions: [bool; 16]) -> Evaluation
     ensures { λ r. ⌜ r ≡ valueOf conditions (take count elements) ⌝ }
@@ -134,11 +144,9 @@ pub fn value(elements: [Element; 32], count: usize, conditions: [bool; 16]) -> E
     if count == 0 {
         return EMPTY;
     }
+    let all = at_most_all(count);
     let mut stack: u64 = 1;
-    for i in 0..Expression::ELEMENTS {
-        if count <= i {
-            return end_of(stack);
-        }
+    for i in 0..all {
         let e = elements[i];
         let part = e.part;
         stack = step(stack, part, &conditions);

@@ -1,33 +1,30 @@
 use borrow.Author.Needs.{needs}
 use Rattle.evaluator.proofs.Mentions.{none-taken}
-use Rattle.evaluator.proofs.Runs.{Ran, start, room, again, done, done-all}
+use Rattle.evaluator.proofs.Runs.{Ran, start, room, cell, again, done}
 use Prim.Native.Nat.{_-_}
 use Rattle.evaluator.proofs.value.Statement.{statement}
 use Rattle.evaluator.proofs.value.Tie as tie
 
 abbrev Inv-loop : tie.InvT-loop
-Inv-loop count elements conditions stack₀ i₀ stack i = Ran elements conditions count i stack
+Inv-loop count elements conditions all stack₀ i₀ stack i = Ran elements conditions count all i stack
 
 abbrev μ-loop : tie.MeasureT-loop
-μ-loop count elements conditions stack₀ i₀ stack i = 32 - i
+μ-loop count elements conditions all stack₀ i₀ stack i = all - i
 
 returns : tie.Need-returns Inv-loop μ-loop
 returns c = search none-taken
 
+at-most-all-requires : tie.Need-at-most-all-requires Inv-loop μ-loop
+at-most-all-requires c κs = search needs
+
 loop-holds : tie.Need-loop-holds Inv-loop μ-loop
 loop-holds c = search (start, needs)
 
-end-of-requires : tie.Need-end-of-requires Inv-loop μ-loop
-end-of-requires c κs = search needs
-
-returns-2 : tie.Need-returns-2 Inv-loop μ-loop
-returns-2 c = search (done, c .end-of .ensures)
-
 mul-e : tie.Need-mul-e Inv-loop μ-loop
-mul-e c = search needs
+mul-e c = search (cell, needs)
 
 array-copy-out-e : tie.Need-array-copy-out-e Inv-loop μ-loop
-array-copy-out-e c = search needs
+array-copy-out-e c = search (cell, needs)
 
 slice-aggregate-step : tie.Need-slice-aggregate-step Inv-loop μ-loop
 slice-aggregate-step c = search needs
@@ -44,11 +41,11 @@ loop-less c = search needs
 loop-again : tie.Need-loop-again Inv-loop μ-loop
 loop-again c = search (again, c .step .ensures, needs)
 
-end-of-requires-2 : tie.Need-end-of-requires-2 Inv-loop μ-loop
-end-of-requires-2 c κs = search needs
+end-of-requires : tie.Need-end-of-requires Inv-loop μ-loop
+end-of-requires c κs = search needs
 
-returns-3 : tie.Need-returns-3 Inv-loop μ-loop
-returns-3 c = search (done-all, c .end-of2 .ensures)
+returns-2 : tie.Need-returns-2 Inv-loop μ-loop
+returns-2 c = search (done, c .end-of .ensures)
 
 pub value-spec : {M : Type 1} → statement M
 value-spec =
@@ -57,9 +54,8 @@ value-spec =
     Inv-loop
     μ-loop
     returns
+    at-most-all-requires
     loop-holds
-    end-of-requires
-    returns-2
     mul-e
     array-copy-out-e
     slice-aggregate-step
@@ -67,5 +63,5 @@ value-spec =
     add-i
     loop-less
     loop-again
-    end-of-requires-2
-    returns-3)
+    end-of-requires
+    returns-2)
