@@ -1,19 +1,27 @@
 -- What follows of condition 3 for one struck event, and for a list in which nothing but time and resets can reach the band.
 use Prim.Native.Nat.{ℕ, zero, suc}
-use mathlib.Core.Path.{_≡_, ap, _∙_, fun-ext}
+use mathlib.Core.Path.{_≡_, refl, sym, ap, _∙_, fun-ext}
 use mathlib.Core.Bool.{Bool, true, false, cond, _||_, false≢true}
 use mathlib.Core.List.{List, [], _∷_, _++_}
+use lib.Dec.{eqb}
+use borrow.Author.Tests.{eq-eqb}
+use Rattle.base.specs.Columns.{named}
 use Rattle.base.specs.Lists.{any}
 use Rattle.base.specs.Ticks.{ticks}
+use Rattle.base.proofs.Cases.{and-yes, or-yes, or-second}
+use Rattle.expression.specs.declared.Element.{Element}
+use Rattle.evaluator.specs.Value.{mentions}
+use Rattle.token_reader.specs.Read.{readTokens, elements}
+use Rattle.band_columns.specs.declared.BandColumns.{BandColumns}
 use Rattle.evaluator.specs.declared.Evaluation.the-variants.{False}
 use Rattle.evaluator.proofs.Mentions.{value-empty}
 use Rattle.band.specs.Rows.{freshRow, valueIn, settleRow, resetRow}
 use Rattle.band.proofs.Settling.{fresh-settles, fresh-reset}
 use Rattle.drive.specs.declared.Drive.{Drive}
 use Rattle.drive.specs.State.{freshDrive, conditionsOf, rowAt, valueAt, settleOf, fallOf, tickOf}
-use Rattle.drive.specs.Events.{Event, Shape, ticking, resetting, setting, sensing, placing, looking, shapeOf, actBy, actOf, stepOf, runOf}
+use Rattle.drive.specs.Events.{Event, bandSet, Shape, ticking, resetting, setting, sensing, placing, looking, shapeOf, actBy, actOf, stepOf, runOf}
 use Rattle.condition.specs.History.{granted, ownSet}
-use Rattle.condition.specs.Compared.{staysBy, refersIn, namedIn, stays, keep, only, compared}
+use Rattle.condition.specs.Compared.{staysBy, mentionedIn, refersIn, namedIn, stays, keep, only, compared}
 use Rattle.condition.specs.Condition.{SameBand}
 use Rattle.condition.specs.Corollaries.{All, isTime, Corollaries}
 use Rattle.condition.proofs.Agree.{settle-at, reset-at}
@@ -45,6 +53,22 @@ struck-never-moves : (capacity bands sensors band : ℕ) (x : Event) (es fs : Li
     → SameBand band (freshDrive capacity bands sensors) (es ++ (x ∷ fs)) (es ++ fs)
 struck-never-moves capacity bands sensors band x es fs t =
     isolation capacity bands sensors band (es ++ (x ∷ fs)) (es ++ fs) (compared-without band x es fs t)
+
+-- ---- what a Set names
+
+any-holds : {A : Type 0} (p : A → Bool) (x : A) (l m : List A) → p x ≡ true → any p (l ++ (x ∷ m)) ≡ true
+unfolding any
+any-holds p x [] m e = sym (or-yes (p x) (any p m) e)
+any-holds p x (y ∷ l) m e = or-second (p y) (any p (l ++ (x ∷ m))) (any-holds p x l m e)
+
+named-anyway : (band row : ℕ) (c : BandColumns) (bytes : List ℕ) (list : List Element) (es fs : List Event) → named 32 (c .mask) ≡ true
+    → readTokens bytes ≡ elements list → mentions row list ≡ true → namedIn band (es ++ (bandSet band c bytes ∷ fs)) row ≡ true
+unfolding namedIn refersIn
+named-anyway band row c bytes list es fs n r m =
+    any-holds (ownSet band (refersIn row)) (bandSet band c bytes) es fs
+    (sym
+    (and-yes (eqb band band) (refersIn row c bytes) true (eq-eqb band band refl)
+    (and-yes (named 32 (c .mask)) (mentionedIn row (readTokens bytes)) true n (sym (ap (mentionedIn row) r ∙ m)))))
 
 -- ---- nothing but time and resets
 
@@ -99,6 +123,7 @@ pub corollaries : Corollaries
 corollaries = record {
   kept-alone = kept-alone;
   struck-never-moves = struck-never-moves;
+  named-anyway = named-anyway;
   only-time-row = only-time-row;
   only-time-value = only-time-value;
 }

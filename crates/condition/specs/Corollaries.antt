@@ -4,10 +4,15 @@ use Prim.Native.Nat.{ℕ}
 use mathlib.Core.Path.{_≡_}
 use mathlib.Core.Bool.{true, false}
 use mathlib.Core.List.{List, [], _∷_, _++_}
+use Rattle.base.specs.Columns.{named}
+use Rattle.expression.specs.declared.Element.{Element}
 use Rattle.evaluator.specs.declared.Evaluation.the-variants.{False}
+use Rattle.evaluator.specs.Value.{mentions}
+use Rattle.token_reader.specs.Read.{readTokens, elements}
 use Rattle.band.specs.Rows.{freshRow}
+use Rattle.band_columns.specs.declared.BandColumns.{BandColumns}
 use Rattle.drive.specs.State.{freshDrive, rowAt, valueAt}
-use Rattle.drive.specs.Events.{Event, runOf}
+use Rattle.drive.specs.Events.{Event, bandSet, runOf}
 use Rattle.condition.specs.Compared.{namedIn, stays, only, compared}
 use Rattle.condition.specs.Condition.{SameBand}
 
@@ -28,6 +33,10 @@ pub record Corollaries : Type 0 where
   pub struck-never-moves : (capacity bands sensors band : ℕ) (x : Event) (es fs : List Event)
       → stays (only band) (namedIn band (es ++ (x ∷ fs))) x ≡ false
       → SameBand band (freshDrive capacity bands sensors) (es ++ (x ∷ fs)) (es ++ fs)
+  -- "any expression in any of its Sets in the script that reads as tokens, granted or refused": a Set names the sensors that its expression refers
+  -- to wherever it stands and whatever it is answered, with 13 too (document 02, #104)
+  pub named-anyway : (band row : ℕ) (c : BandColumns) (bytes : List ℕ) (list : List Element) (es fs : List Event) → named 32 (c .mask) ≡ true
+      → readTokens bytes ≡ elements list → mentions row list ≡ true → namedIn band (es ++ (bandSet band c bytes ∷ fs)) row ≡ true
   -- "nothing there could": where only elapses and resets remain, the band's row is a fresh one and its value FALSE
   pub only-time-row : (capacity bands sensors band : ℕ) (es : List Event) → All isTime (compared band es)
       → rowAt (runOf (freshDrive capacity bands sensors) es) band ≡ freshRow

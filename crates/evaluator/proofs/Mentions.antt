@@ -1,22 +1,18 @@
 -- The value depends only on the conditions of the rows that the elements refer to.
 use Prim.Native.Nat.{ℕ}
 use mathlib.Core.Path.{_≡_, refl, sym, ap, _∙_}
-use mathlib.Core.Bool.{Bool, true, false, _||_}
+use mathlib.Core.Bool.{Bool, true}
 use mathlib.Core.List.{List, [], _∷_}
 use mathlib.Core.Option.{Option, none, some}
 use lib.ListN.{take}
 use borrow.Author.Tests.{eq-eqb}
 use Rattle.base.specs.Lists.{any}
-use Rattle.base.proofs.Cases.{or-yes}
+use Rattle.base.proofs.Cases.{or-yes, or-second}
 use Rattle.expression.specs.declared.Part.{Part}
 use Rattle.expression.specs.declared.Part.the-variants.{Reference, Operator}
 use Rattle.expression.specs.declared.Element.{Element}
 use Rattle.evaluator.specs.declared.Evaluation.the-variants.{False}
 use Rattle.evaluator.specs.Value.{conditionAt, putElement, onStack, evaluate, valueBy, valueOf, refersTo, mentions}
-
-or-second : (a b : Bool) → b ≡ true → (a || b) ≡ true
-or-second true b e = refl
-or-second false b e = e
 
 module _ (f g : ℕ → Bool) where
   step-agree : (p : Part) (stack : Option (List Bool)) → ((row : ℕ) → refersTo row p ≡ true → f row ≡ g row)

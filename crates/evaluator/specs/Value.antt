@@ -58,7 +58,7 @@ unfoldable pub evaluate : (ℕ → Bool) → List Element → Option (List Bool)
 evaluate f [] stack = endOf stack
 evaluate f (e ∷ es) stack = evaluate f es (onStack (putElement f (e .part)) stack)
 
--- The three. "Empty .. has the value FALSE": "a malformed, non-empty expression" is one of the others.
+-- TRUE, FALSE or malformed. "Empty .. has the value FALSE" and is not malformed: #104 speaks of "a malformed, non-empty expression".
 abbrev pub valueBy : (ℕ → Bool) → List Element → Evaluation
 valueBy f [] = False
 valueBy f (e ∷ es) = evaluate f (e ∷ es) (some [])
@@ -67,8 +67,8 @@ valueBy f (e ∷ es) = evaluate f (e ∷ es) (some [])
 unfoldable pub valueOf : List Bool → List Element → Evaluation
 valueOf conditions es = valueBy (conditionAt conditions) es
 
--- what locks, and what holds a Set: TRUE, neither FALSE nor malformed. "malformed .. has the value FALSE" where a row has such a list, which no
--- script can store.
+-- What locks, what holds a Set and what is listed as 1: TRUE, and neither FALSE nor malformed. Document 01's "malformed .. has the value FALSE" is
+-- left for a row that has such a list, which no script can store.
 abbrev pub isTrue : Evaluation → Bool
 isTrue True = true
 isTrue False = false

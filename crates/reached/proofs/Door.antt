@@ -2,14 +2,16 @@
 use Prim.Native.Nat.{ℕ, _≤_}
 use mathlib.Core.Path.{_≡_, refl, sym, ap, ap₂, _∙_}
 use mathlib.Core.Bool.{Bool, true, false, not, cond, _&&_, _||_, false≢true}
-use mathlib.Core.List.{List, []}
+use mathlib.Core.List.{List, [], _∷_}
+use mathlib.Core.Logic.{_⊎_, inl, inr, ⊎-elim}
 use native.Mathlib.Omega.{arith}
 use lib.Dec.{eqb, ltb}
 use lib.ListN.{length}
-use borrow.Author.Tests.{ne-eqb}
+use borrow.Author.Tests.{ne-eqb, eqb-true, eqb-false}
 use Rattle.base.specs.Columns.{named}
 use Rattle.base.specs.Lists.{any}
-use Rattle.base.specs.Refusals.{firstOf, applying, orderOf}
+use Rattle.base.specs.Refusals.{Refusal, when, firstOf, applying, orderOf}
+use Rattle.base.proofs.Refusals.{own-place}
 use Rattle.base.specs.Rows.{isRow}
 use Rattle.base.proofs.Cases.{and-left, and-right}
 use Rattle.sensor_set.specs.declared.SensorEvent.the-variants as S
@@ -28,7 +30,7 @@ use Rattle.drive.specs.declared.Drive.{Drive}
 use Rattle.drive.specs.State.{conditionsOf, rowAt}
 use Rattle.drive.specs.Events.{Shape, ticking, resetting, setting, sensing, placing, looking, shapeOf, ifSetting}
 use Rattle.drive.specs.Events.{Event, bandSet, tokensAnswer, malformedIn, formedFrom, heldUnder, rowRefusalsIf, refusalsBy, refusals, answerOf, stepOf}
-use Rattle.drive.proofs.Answers.{lowest-given, band-answered, refused-stays}
+use Rattle.drive.proofs.Answers.{lowest-given, answer-below, band-answered, refused-stays}
 use Rattle.reached.specs.Door.{AtTheDoor}
 
 or-false : (a : Bool) → (a || false) ≡ a
@@ -116,6 +118,61 @@ not-both conditions c bytes row h =
     (ap (λ (b : Bool). malformed (elementsIn (cond b x (row .expression)))) (and-left (named 32 (c .mask)) _ h)
     ∙ and-right (named 32 (c .mask)) _ h)
 
+-- ---- the lowest number
+
+-- what applies is the first of the list, or applies in the rest
+either : (n k : ℕ) (a : Bool) (l : List Refusal) → applying n (when k a ∷ l) ≡ true → ((k ≡ n) × (a ≡ true)) ⊎ (applying n l ≡ true)
+unfolding applying any
+either n k a l = go (eqb k n) refl a
+  where
+    go : (b : Bool) → eqb k n ≡ b → (a : Bool) → ((b && a) || applying n l) ≡ true → ((k ≡ n) × (a ≡ true)) ⊎ (applying n l ≡ true)
+    go true q true h = inl (eqb-true k n q, refl)
+    go true q false h = inr h
+    go false q a h = inr h
+
+none : (n : ℕ) → applying n [] ≡ true → ⊥
+unfolding applying any
+none n h = false≢true h
+
+-- a number that applies to a Set whose expression is malformed is at most 4 or 13
+beside : (d : Drive) (b : ℕ) (c : BandColumns) (bytes : List ℕ) → malformedIn c bytes ≡ true → (n : ℕ)
+    → applying n (refusalsBy d (setting b c bytes)) ≡ true → (n ≤ 4) ⊎ (13 ≤ n)
+beside d b c bytes h n p =
+    ⊎-elim (λ q. inl (omega (arith, q .0)))
+    (λ p. ⊎-elim (λ q. inl (omega (arith, q .0)))
+    (λ p. ⊎-elim (λ q. inl (omega (arith, q .0)))
+    (λ p. ⊎-elim (λ q. inl (omega (arith, q .0)))
+    (λ p. ⊎-elim (λ q. inr (omega (arith, q .0)))
+    (λ p. ⊎-elim (λ q. absurd (false≢true (sym (not-both (conditionsOf d) c bytes (rowAt d b) h) ∙ q .1))) (λ p. absurd (none n p)) (either n 8 _ _ p))
+    (either n 13 _ _ p))
+    (either n 4 _ _ p))
+    (either n 3 _ _ p))
+    (either n 2 _ _ p))
+    (either n 1 _ _ p)
+
+lowest-number : (d : Drive) (e : Event) (n : ℕ) → applying n (refusals d e) ≡ true → answerOf d e ≤ n
+lowest-number d e n p = go (eqb (answerOf d e) 13) refl (eqb n 13) refl
+  where
+    low : orderOf (answerOf d e) ≤ orderOf n
+    low = lowest-given d e .lowest n p .1
+
+    -- where 13 is given
+    given : (x : Shape) → ifSetting x (λ band c bytes. malformedIn c bytes) false ≡ true → applying n (refusalsBy d x) ≡ true → (n ≤ 4) ⊎ (13 ≤ n)
+    given (ticking k) h q = absurd (false≢true h)
+    given (resetting t) h q = absurd (false≢true h)
+    given (setting b c bytes) h q = beside d b c bytes h n q
+    given (sensing s x) h q = absurd (false≢true h)
+    given (placing b start k) h q = absurd (false≢true h)
+    given (looking w start k) h q = absurd (false≢true h)
+
+    go : (a : Bool) → eqb (answerOf d e) 13 ≡ a → (b : Bool) → eqb n 13 ≡ b → answerOf d e ≤ n
+    go a q true r = omega (arith, eqb-true n 13 r, answer-below d e)
+    go true q false r =
+        let is : answerOf d e ≡ 13 = eqb-true (answerOf d e) 13 q in
+        ⊎-elim (λ k. absurd (omega (arith, k, low, ap orderOf is, own-place n (eqb-false n 13 r)))) (λ k. omega (arith, k, is))
+        (given (shapeOf e) (only-malformed d e is) p)
+    go false q false r = omega (arith, low, own-place (answerOf d e) (eqb-false (answerOf d e) 13 q), own-place n (eqb-false n 13 r))
+
 -- ---- 13 whatever the drive
 
 -- once the band is there, the answer is the rest of the list, in which only whether the Set is held looks at the drive
@@ -154,5 +211,6 @@ at-the-door = record {
   settles-open = settles-open;
   never-held = never-held;
   not-both = not-both;
+  lowest-number = lowest-number;
   whatever = whatever;
 }

@@ -4,7 +4,7 @@ use mathlib.Core.Path.{_≡_}
 use mathlib.Core.Bool.{Bool, true, false}
 use mathlib.Core.List.{List, []}
 use Rattle.base.specs.Columns.{named}
-use Rattle.base.specs.Refusals.{orderOf}
+use Rattle.base.specs.Refusals.{applying, orderOf}
 use Rattle.base.specs.Rows.{isRow}
 use Rattle.expression.specs.Elements.{elementsIn}
 use Rattle.evaluator.specs.Formed.{malformed}
@@ -13,7 +13,7 @@ use Rattle.band.specs.declared.Row.{Row}
 use Rattle.band.specs.Rows.{settleRow}
 use Rattle.band_columns.specs.declared.BandColumns.{BandColumns}
 use Rattle.drive.specs.declared.Drive.{Drive}
-use Rattle.drive.specs.Events.{Event, bandSet, shapeOf, ifSetting, malformedIn, formedFrom, heldUnder, answerOf, stepOf}
+use Rattle.drive.specs.Events.{Event, bandSet, shapeOf, ifSetting, malformedIn, formedFrom, heldUnder, refusals, answerOf, stepOf}
 
 pub record AtTheDoor : Type 0 where
   -- "A Set with a malformed, non-empty expression is now refused.": with 13 or a number that comes before it, so never with 8, and the drive stays
@@ -27,12 +27,14 @@ pub record AtTheDoor : Type 0 where
   pub emptied : (d : Drive) (band : ℕ) (c : BandColumns) (bytes : List ℕ) → readTokens bytes ≡ elements [] → answerOf d (bandSet band c bytes) ≡ 13
       → ⊥
   -- a row that has such an expression all the same, as no script can make one, is not under a TRUE expression: it settles as it is, and no Set of it
-  -- is held. So 13 and 8 never apply both, and the answer that is given is also the lowest number.
+  -- is held
   pub settles-open : (conditions : List Bool) (row : Row) → malformed (elementsIn (row .expression)) ≡ true → settleRow conditions row ≡ row
   pub never-held : (conditions : List Bool) (c : BandColumns) (new : Row) → malformed (elementsIn (new .expression)) ≡ true
       → heldUnder conditions c new ≡ false
+  -- so 13 and 8 never apply both, and document 01's sentence stays as it was: "The lowest number that applies is given"
   pub not-both : (conditions : List Bool) (c : BandColumns) (bytes : List ℕ) (row : Row) → malformedIn c bytes ≡ true
       → heldUnder conditions c (formedFrom c bytes row) ≡ false
+  pub lowest-number : (d : Drive) (e : Event) (n : ℕ) → applying n (refusals d e) ≡ true → answerOf d e ≤ n
   -- "at the door": it is judged without the conditions and the rows. Of two drives that have the band, whatever else they hold, one gives 13 where
   -- the other does.
   pub whatever : (d e : Drive) (band : ℕ) (c : BandColumns) (bytes : List ℕ) → isRow (d .«band_count») band ≡ true
