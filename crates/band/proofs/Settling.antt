@@ -4,13 +4,15 @@ use Prim.Native.Nat.{ℕ, zero, suc, _<_}
 use native.Mathlib.Omega.{arith}
 use mathlib.Core.Bool.{Bool, true, false, not, cond, _&&_, _||_, false≢true}
 use mathlib.Core.List.{List}
+use Rattle.base.specs.Columns.{named}
 use Rattle.base.proofs.Cases.{cond-true, neither}
+use Rattle.base.proofs.Columns.{named-none}
 use Rattle.evaluator.specs.declared.Evaluation.{Evaluation}
 use Rattle.evaluator.specs.Value.{isTrue}
 use Rattle.band.specs.declared.Side.{Side}
 use Rattle.band.specs.declared.Side.the-variants.{Read, Write}
 use Rattle.band.specs.declared.Row.{Row}
-use Rattle.band.specs.Rows.{lastResetType, freshRow, closedOn, valueIn, withLocked, lockUnder, settleRow, inSet, resetRow}
+use Rattle.band.specs.Rows.{lastResetType, freshRow, closedOn, valueIn, withLocked, lockUnder, settleRow, resetBit, inSet, resetRow}
 use Rattle.band.specs.Parts.{lockableOn, isLockable, locksBy}
 
 -- ---- what the code's arms come to
@@ -43,15 +45,21 @@ pub reset-locks : (type : ℕ) (row r : Row) (t : Bool) → t ≡ inSet (row .«
 unfolding resetRow
 reset-locks type row r t p e q = cond-true (inSet (row .«lock_on_reset») type) _ _ _ (sym p ∙ e) q
 
-pub no-type : (set type : ℕ) → (type ≡ 0 → ⊥) → (type ≡ 1 → ⊥) → (type ≡ 2 → ⊥) → false ≡ inSet set type
-no-type set zero a b c = absurd (a refl)
-no-type set (suc zero) a b c = absurd (b refl)
-no-type set (suc (suc zero)) a b c = absurd (c refl)
-no-type set (suc (suc (suc type))) a b c = refl
+-- what is no type has no bit
+pub no-bit : (type : ℕ) → (type ≡ 0 → ⊥) → (type ≡ 1 → ⊥) → (type ≡ 2 → ⊥) → 0 ≡ resetBit type
+no-bit zero a b c = absurd (a refl)
+no-bit (suc zero) a b c = absurd (b refl)
+no-bit (suc (suc zero)) a b c = absurd (c refl)
+no-bit (suc (suc (suc type))) a b c = refl
+
+-- a set holds a type where it has the type's bit
+pub by-bit : (set type bit : ℕ) (t : Bool) → bit ≡ resetBit type → t ≡ named bit set → t ≡ inSet set type
+by-bit set type bit t e q = q ∙ ap (λ (b : ℕ). named b set) e
 
 -- a type above the last is in no set
 pub past-types : (set type : ℕ) → lastResetType < type → false ≡ inSet set type
-past-types set type h = no-type set type (λ e. omega (arith, h, e)) (λ e. omega (arith, h, e)) (λ e. omega (arith, h, e))
+past-types set type h =
+    named-none set (resetBit type) (sym (no-bit type (λ e. omega (arith, h, e)) (λ e. omega (arith, h, e)) (λ e. omega (arith, h, e))))
 
 pub closed-read : (row : Row) (side : Side) (t : Bool) → side ≡ Read → t ≡ (row .«read_lock_enabled» && row .«read_locked») → t ≡ closedOn side row
 closed-read row side t e q = q ∙ ap (λ (s : Side). closedOn s row) (sym e)

@@ -60,19 +60,24 @@ lockUnder v row = withLocked (lockedUnder v Read row) (lockedUnder v Write row) 
 unfoldable pub settleRow : List Bool → Row → Row
 settleRow conditions row = lockUnder (isTrue (valueIn conditions row)) row
 
--- "LockOnReset (a set as bits: 1 power cycle, 2 hardware, 4 hot plug ..)"; "Reset types: 0 power cycle, 1 hardware, 2 hot plug."
+-- "Reset types: 0 power cycle, 1 hardware, 2 hot plug."
 abbrev pub lastResetType : ℕ
 lastResetType = 2
 
--- the set of all types
+-- "(a set as bits: 1 power cycle, 2 hardware, 4 hot plug; ..)"; what is no type has no bit
+abbrev pub resetBit : ℕ → ℕ
+resetBit zero = 1
+resetBit (suc zero) = 2
+resetBit (suc (suc zero)) = 4
+resetBit (suc (suc (suc type))) = 0
+
+-- "LockOnReset (a set as bits: .. 0 to 7)": the greatest set, which has every type
 abbrev pub allResets : ℕ
 allResets = 7
 
+-- "whose set has the type"
 abbrev pub inSet : ℕ → ℕ → Bool
-inSet set zero = named 1 set
-inSet set (suc zero) = named 2 set
-inSet set (suc (suc zero)) = named 4 set
-inSet set (suc (suc (suc type))) = false
+inSet set type = named (resetBit type) set
 
 -- "A band whose set has the type gets each enabled side locked."
 unfoldable pub resetRow : ℕ → Row → Row

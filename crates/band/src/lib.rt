@@ -1,7 +1,7 @@
 // One locking row, or band (document 01, 'Bands'; 002, 4.3.4 and 4.3.7): what settling and a reset make of it.
 ghost use mathlib.Core.Path.{_≡_};
 ghost use mathlib.Core.Bool.{true, not};
-ghost use Rattle.band.specs.Rows.{freshRow, closedOn, valueIn, withLocked, lockUnder, settleRow, inSet, resetRow};
+ghost use Rattle.band.specs.Rows.{freshRow, closedOn, valueIn, withLocked, lockUnder, settleRow, resetBit, inSet, resetRow};
 ghost use Rattle.band.specs.Parts.{isLockable, locksBy};
 use evaluator::Evaluation;
 use expression::Expression;
@@ -130,14 +130,21 @@ impl Row {
     }
 }
 
+// The bit of a reset type in a LockOnReset set. What is no type has none.
+fn reset_bit(reset_type: u64) -> u64
+    ensures { λ r. ⌜ r ≡ resetBit «reset_type» ⌝ }
+{
+    match reset_type {
+        0 => 1,
+        1 => 2,
+        2 => 4,
+        _ => 0,
+    }
+}
+
 // Whether a LockOnReset set holds a reset type.
 fn in_set(set: u64, reset_type: u64) -> bool
     ensures { λ r. ⌜ r ≡ inSet set «reset_type» ⌝ }
 {
-    match reset_type {
-        0 => base::names(set, 1),
-        1 => base::names(set, 2),
-        2 => base::names(set, 4),
-        _ => false,
-    }
+    base::names(set, reset_bit(reset_type))
 }
