@@ -53,6 +53,17 @@ enum drive_kind {
     DRIVE_TRANSFER = 7
 };
 
+/* The types of resets, for DRIVE_RESET. */
+enum drive_reset {
+    DRIVE_POWER_CYCLE = 0,
+    DRIVE_HARDWARE = 1,
+    DRIVE_HOT_PLUG = 2,
+    DRIVE_PROGRAMMATIC = 3
+};
+
+/* A type's bit in a LockOnReset column: 1, 2, 4 or 8. A set of types is their sum, 0 to 15. */
+#define DRIVE_LOCK_ON(type) (UINT64_C(1) << (type))
+
 /* The flags of the Locking feature, for discovery_read (003, 10.2.14, table 23). */
 enum drive_flag {
     DRIVE_FLAG_LOCKING_SUPPORTED = 1,
@@ -106,11 +117,12 @@ uint8_t drive_run(const uint8_t *script, size_t script_len, uint64_t most, uint8
  * drive_event gives one event to the drive that a script leaves after its last event, and writes the event's stops to `*stops`. They are 0
  * for every kind but an elapse.
  *
- * The fields of each kind: a reading has a sensor and a value in thousandths; an elapse its ticks; a reset its type; a sensor Set the sensor,
- * the mask, and enabled, on-threshold, on-fraction, on-timeout, off-threshold, off-fraction and off-timeout; a band Set the band, the mask,
- * and ReadLockEnabled, WriteLockEnabled, ReadLocked, WriteLocked and LockOnReset; a geometry a band, a start and a length; a transfer 0 for a
- * read or 1 for a write, a start and a count. A Set has a number for each of its columns, and those that its mask does not name are not looked
- * at; nor are the bytes of `tokens`, save how many they are, where a Set does not name the expression. A field past the end of `fields` is 0.
+ * The fields of each kind: a reading has a sensor and a value in thousandths; an elapse its ticks; a reset its type (enum drive_reset); a sensor
+ * Set the sensor, the mask, and enabled, on-threshold, on-fraction, on-timeout, off-threshold, off-fraction and off-timeout; a band Set the
+ * band, the mask, and ReadLockEnabled, WriteLockEnabled, ReadLocked, WriteLocked and LockOnReset (DRIVE_LOCK_ON); a geometry a band, a start
+ * and a length; a transfer 0 for a read or 1 for a write, a start and a count. A Set has a number for each of its columns, and those that its
+ * mask does not name are not looked at; nor are the bytes of `tokens`, save how many they are, where a Set does not name the expression. A field
+ * past the end of `fields` is 0.
  *
  * It answers DRIVE_DONE, and leaves `*place`. It answers 1 to 9 or DRIVE_MALFORMED for an event that is refused, 2 also for a kind that there is
  * not, and then it writes nothing. On a bad script it answers 1 to 6 or DRIVE_MALFORMED where the event gets that number on the fresh drive of the

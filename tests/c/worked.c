@@ -91,7 +91,7 @@ static void run(void)
 
 static void events(void)
 {
-    const uint64_t unlock[] = {1, 4, 0, 0, 0, 0, 0}, five[] = {5}, no_type[] = {3}, no_sensor[] = {16, 0};
+    const uint64_t unlock[] = {1, 4, 0, 0, 0, 0, 0}, five[] = {5}, no_type[] = {DRIVE_PROGRAMMATIC + 1}, no_sensor[] = {16, 0};
     const uint64_t expression[] = {1, 32}, no_band[] = {16, 32};
     const uint8_t none[] = {0}, empty[] = {0xf0, 0xf1};
     uint64_t stops = BEFORE;
@@ -115,6 +115,34 @@ static void events(void)
     place = BEFORE;
     expect(drive_event(SCRIPT, ELAPSE_AT, DRIVE_ELAPSE, five, 1, none, 0, &stops, &place) == DRIVE_DONE, "the elapse is done");
     expect(stops == 1 && place == BEFORE, "and has one stop");
+}
+
+/* A reset of each type, the one type more that there is not, and LockOnReset with the bits of all types. */
+static void resets(void)
+{
+    const uint64_t all = DRIVE_LOCK_ON(DRIVE_POWER_CYCLE) + DRIVE_LOCK_ON(DRIVE_HARDWARE) + DRIVE_LOCK_ON(DRIVE_HOT_PLUG)
+        + DRIVE_LOCK_ON(DRIVE_PROGRAMMATIC);
+    uint64_t set[] = {1, 16, 0, 0, 0, 0, 0}, type, stops = BEFORE;
+    const uint8_t none[] = {0};
+    size_t place = BEFORE;
+    for (type = DRIVE_POWER_CYCLE; type <= DRIVE_PROGRAMMATIC; type++) {
+        stops = BEFORE;
+        expect(drive_event(SCRIPT, WHOLE, DRIVE_RESET, &type, 1, none, 0, &stops, &place) == DRIVE_DONE, "a reset of each type is done");
+        expect(stops == 0 && place == BEFORE, "and has no stops");
+        set[6] = DRIVE_LOCK_ON(type);
+        expect(drive_event(SCRIPT, WHOLE, DRIVE_BAND_SET, set, 7, none, 0, &stops, &place) == DRIVE_DONE, "LockOnReset takes the bit of each type");
+    }
+    stops = BEFORE;
+    expect(drive_event(SCRIPT, WHOLE, DRIVE_RESET, &type, 1, none, 0, &stops, &place) == DRIVE_OUT_OF_RANGE, "there is no type 4");
+    set[6] = all + 1;
+    expect(drive_event(SCRIPT, WHOLE, DRIVE_BAND_SET, set, 7, none, 0, &stops, &place) == DRIVE_OUT_OF_RANGE, "LockOnReset takes no 16");
+    expect(drive_event(SCRIPT, WHOLE + 1, DRIVE_BAND_SET, set, 7, none, 0, &stops, &place) == DRIVE_OUT_OF_RANGE, "on a bad script neither");
+    expect(stops == BEFORE && place == BEFORE, "2 writes nothing");
+    set[6] = all;
+    expect(drive_event(SCRIPT, WHOLE, DRIVE_BAND_SET, set, 7, none, 0, &stops, &place) == DRIVE_DONE, "LockOnReset takes all of them");
+    type = DRIVE_PROGRAMMATIC;
+    expect(drive_event(SCRIPT, WHOLE + 1, DRIVE_RESET, &type, 1, none, 0, &stops, &place) == DRIVE_BAD_SCRIPT, "a reset on a bad script gets 10");
+    expect(place == WHOLE, "with the place");
 }
 
 static void fresh(void)
@@ -192,6 +220,7 @@ int main(void)
     listing();
     run();
     events();
+    resets();
     fresh();
     tokens();
     discovery();

@@ -46,11 +46,12 @@ unfolding resetRow
 reset-locks type row r t p e q = cond-true (inSet (row .«lock_on_reset») type) _ _ _ (sym p ∙ e) q
 
 -- what is no type has no bit
-pub no-bit : (type : ℕ) → (type ≡ 0 → ⊥) → (type ≡ 1 → ⊥) → (type ≡ 2 → ⊥) → 0 ≡ resetBit type
-no-bit zero a b c = absurd (a refl)
-no-bit (suc zero) a b c = absurd (b refl)
-no-bit (suc (suc zero)) a b c = absurd (c refl)
-no-bit (suc (suc (suc type))) a b c = refl
+pub no-bit : (type : ℕ) → (type ≡ 0 → ⊥) → (type ≡ 1 → ⊥) → (type ≡ 2 → ⊥) → (type ≡ 3 → ⊥) → 0 ≡ resetBit type
+no-bit zero a b c e = absurd (a refl)
+no-bit (suc zero) a b c e = absurd (b refl)
+no-bit (suc (suc zero)) a b c e = absurd (c refl)
+no-bit (suc (suc (suc zero))) a b c e = absurd (e refl)
+no-bit (suc (suc (suc (suc type)))) a b c e = refl
 
 -- a set holds a type where it has the type's bit
 pub by-bit : (set type bit : ℕ) (t : Bool) → bit ≡ resetBit type → t ≡ named bit set → t ≡ inSet set type
@@ -59,7 +60,8 @@ by-bit set type bit t e q = q ∙ ap (λ (b : ℕ). named b set) e
 -- a type above the last is in no set
 pub past-types : (set type : ℕ) → lastResetType < type → false ≡ inSet set type
 past-types set type h =
-    named-none set (resetBit type) (sym (no-bit type (λ e. omega (arith, h, e)) (λ e. omega (arith, h, e)) (λ e. omega (arith, h, e))))
+    named-none set (resetBit type)
+    (sym (no-bit type (λ e. omega (arith, h, e)) (λ e. omega (arith, h, e)) (λ e. omega (arith, h, e)) (λ e. omega (arith, h, e))))
 
 pub closed-read : (row : Row) (side : Side) (t : Bool) → side ≡ Read → t ≡ (row .«read_lock_enabled» && row .«read_locked») → t ≡ closedOn side row
 closed-read row side t e q = q ∙ ap (λ (s : Side). closedOn s row) (sym e)
@@ -123,7 +125,7 @@ fresh-settles cs = refl
 
 pub fresh-reset : (type : ℕ) → resetRow type freshRow ≡ freshRow
 unfolding resetRow freshRow
-fresh-reset type = go (inSet 1 type)
+fresh-reset type = go (inSet (freshRow .«lock_on_reset») type)
   where
     go : (b : Bool) → cond b (lockUnder true freshRow) freshRow ≡ freshRow
     go true = refl

@@ -60,20 +60,21 @@ lockUnder v row = withLocked (lockedUnder v Read row) (lockedUnder v Write row) 
 unfoldable pub settleRow : List Bool → Row → Row
 settleRow conditions row = lockUnder (isTrue (valueIn conditions row)) row
 
--- "Reset types: 0 power cycle, 1 hardware, 2 hot plug."
+-- "Reset types: 0 power cycle, 1 hardware, 2 hot plug." Document 02, #105, 'Programmatic reset': "Type 3"
 abbrev pub lastResetType : ℕ
-lastResetType = 2
+lastResetType = 3
 
--- "(a set as bits: 1 power cycle, 2 hardware, 4 hot plug; ..)"; what is no type has no bit
+-- "(a set as bits: 1 power cycle, 2 hardware, 4 hot plug; ..)"; "bit 8 for the new type". What is no type has no bit.
 abbrev pub resetBit : ℕ → ℕ
 resetBit zero = 1
 resetBit (suc zero) = 2
 resetBit (suc (suc zero)) = 4
-resetBit (suc (suc (suc type))) = 0
+resetBit (suc (suc (suc zero))) = 8
+resetBit (suc (suc (suc (suc type)))) = 0
 
--- "LockOnReset (a set as bits: .. 0 to 7)": the greatest set, which has every type
+-- "LockOnReset takes 0 to 15": the greatest set, which has every type
 abbrev pub allResets : ℕ
-allResets = 7
+allResets = 15
 
 -- "whose set has the type"
 abbrev pub inSet : ℕ → ℕ → Bool

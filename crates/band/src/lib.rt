@@ -12,7 +12,7 @@ pub enum Side {
     Write,
 }
 
-// A row's columns. LockOnReset is a set as bits: 1 power cycle, 2 hardware, 4 hot plug.
+// A row's columns. LockOnReset is a set as bits: 1 power cycle, 2 hardware, 4 hot plug, 8 programmatic.
 pub struct Row {
     pub read_lock_enabled: bool,
     pub write_lock_enabled: bool,
@@ -29,8 +29,8 @@ fn negated(a: bool) -> bool
 }
 
 impl Row {
-    // The greatest reset type: 0 power cycle, 1 hardware, 2 hot plug.
-    pub const LAST_RESET: u64 = 2;
+    // The greatest reset type: 0 power cycle, 1 hardware, 2 hot plug, 3 programmatic.
+    pub const LAST_RESET: u64 = 3;
 
     // The row of a fresh drive.
     pub fn fresh() -> Row
@@ -119,7 +119,7 @@ impl Row {
         self
     }
 
-    // The row after a reset of a type: 0 power cycle, 1 hardware, 2 hot plug. Another type is in no set.
+    // The row after a reset of a type. What is no type is in no set.
     pub fn reset(self, reset_type: u64) -> Row
         ensures { λ r. ⌜ r ≡ resetRow «reset_type» self ⌝ }
     {
@@ -138,6 +138,7 @@ fn reset_bit(reset_type: u64) -> u64
         0 => 1,
         1 => 2,
         2 => 4,
+        3 => 8,
         _ => 0,
     }
 }

@@ -16,7 +16,8 @@ use Rattle.band.specs.Rows.{allResets, enabledOn}
 abbrev pub bandMasks : ℕ
 bandMasks = 64
 
--- Every bit of the mask is one of the six, and every named value is in its range: "LockOnReset 0 to 7", "The rest are booleans."
+-- Every bit of the mask is one of the six, and every named value is in its range: "LockOnReset takes 0 to 15" (document 02, #105), "The rest are
+-- booleans."
 unfoldable pub columnsFit : BandColumns → Bool
 columnsFit c =
     let m = c .mask in

@@ -24,7 +24,7 @@ impl BandColumns {
     pub const MASKS: u64 = 64;
 
     // The set of all reset types.
-    pub const ALL_RESETS: u64 = 7;
+    pub const ALL_RESETS: u64 = 15;
 
     // Whether every bit of the mask is known and every named value is in its range.
     pub fn fit(self) -> bool

@@ -91,6 +91,10 @@ crossing =
 abbrev enableRead : Event
 enableRead = bandOn 0 1 1 0 []
 
+-- band 1 under sensor 0, in no set of resets; its timer has one tick to go when an event comes, and then that tick
+abbrev waiting : Event → List Event
+waiting e = sensorOn 0 3 ∷ bandOn 1 49 1 0 rowZero ∷ reading 0 5000 ∷ elapse 2 ∷ e ∷ elapse 1 ∷ []
+
 abbrev lockRead : Event
 lockRead = bandOn 0 4 1 0 []
 
@@ -121,6 +125,14 @@ record Worked : Type 0 where
   reset-read : told Read 0 (enableRead ∷ reset 0 ∷ []) ≡ (true, true)
   reset-write : told Write 0 (enableRead ∷ reset 0 ∷ []) ≡ (false, false)
   no-reset : told Read 0 (enableRead ∷ reset 1 ∷ []) ≡ (false, false)
+  -- document 02, #105: a programmatic reset stays, and locks the side where the set has bit 8; what is no type locks none
+  programmatic-list : compared 0 (bandOn 0 17 1 8 [] ∷ reset 3 ∷ []) ≡ bandOn 0 17 1 8 [] ∷ reset 3 ∷ []
+  programmatic-read : told Read 0 (bandOn 0 17 1 8 [] ∷ reset 3 ∷ []) ≡ (true, true)
+  programmatic-open : told Read 0 (bandOn 0 17 1 7 [] ∷ reset 3 ∷ []) ≡ (false, false)
+  no-type : told Read 0 (bandOn 0 17 1 15 [] ∷ reset 4 ∷ []) ≡ (false, false)
+  -- a timer goes on over it, and a power cycle stops it
+  timer-goes-on : told Read 1 (waiting (reset 3)) ≡ (true, true)
+  timer-stopped : told Read 1 (waiting (reset 0)) ≡ (false, false)
   -- without the reset, the Set or the reading the side stays unlocked: none of them may be struck
   needs-reset : told Read 0 (enableRead ∷ []) ≡ (false, false)
   needs-set : told Read 0 (reset 0 ∷ []) ≡ (false, false)
@@ -149,6 +161,12 @@ worked = record {
   reset-read = refl;
   reset-write = refl;
   no-reset = refl;
+  programmatic-list = refl;
+  programmatic-read = refl;
+  programmatic-open = refl;
+  no-type = refl;
+  timer-goes-on = refl;
+  timer-stopped = refl;
   needs-reset = refl;
   needs-set = refl;
   needs-reading = refl;

@@ -151,7 +151,8 @@ LowestGiven = (d : Drive) (e : Event) → LowestOf (refusals d e) (answerOf d e)
 
 -- ---- what an event that is answered 0 does before the bands settle
 
--- "A band whose set has the type gets each enabled side locked. A power cycle then sets each level FALSE .."
+-- "A band whose set has the type gets each enabled side locked. A power cycle then sets each level FALSE .."; of the other types document 02, #105
+-- says it of the new one: it "does not touch sensors"
 abbrev pub resetOf : ℕ → Drive → Drive
 resetOf t d =
     withSensors (cond (eqb t 0) (map powerCycleOf (d .sensors)) (d .sensors)) (withRows (map (resetRow t) (d .rows)) d)

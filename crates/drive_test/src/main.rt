@@ -350,7 +350,7 @@ fn stored_malformed() {
     let d = after_set(d, 2, 0, set(2, 1), &AND_ALONE);
     let d = after_set(d, 3, 0, set(32, 0), &AND_ALONE);
     let d = after_set(d, 4, 1, set(32, 0), &AND_ALONE);
-    let d = after_set(d, 5, 0, set(48, 8), &AND_ALONE);
+    let d = after_set(d, 5, 0, set(48, 16), &AND_ALONE);
     end(d);
     let d = after_set(d, 6, 0, set(36, 1), &ALWAYS);
     let d = after_set(d, 7, 0, set(36, 0), &AND_ALONE);
@@ -401,6 +401,65 @@ fn counts(drive: Drive) {
     count_sensors(drive, MOST as usize);
 }
 
+// A drive of one band whose read side is enabled.
+fn enabled() -> Drive {
+    let fresh = Drive::fresh(1_000, 1, 0);
+    let drive = fresh.drive;
+    let reply = events::set_band(drive, 0, set(1, 1), b"");
+    reply.drive
+}
+
+// What a reset of a type is answered, and ReadLocked after it.
+fn after_reset(drive: Drive, reset_type: u64) {
+    let reply = events::reset(drive, reset_type);
+    let answer = reply.answer;
+    let left = reply.drive;
+    let rows = left.rows;
+    let row = rows[0];
+    print_answer(answer);
+    print_bit(row.read_locked);
+}
+
+// Each type, and one that there is not.
+fn all_resets(drive: Drive) {
+    after_reset(drive, 0);
+    after_reset(drive, 1);
+    after_reset(drive, 2);
+    after_reset(drive, 3);
+    after_reset(drive, 4);
+    print(b"\n");
+}
+
+// A Set of LockOnReset: what it is answered, and then the resets.
+fn take_set(drive: Drive, value: u64) {
+    let reply = events::set_band(drive, 0, set(16, value), b"");
+    let answer = reply.answer;
+    let left = reply.drive;
+    print(b"k");
+    print_next(value);
+    print_answer(answer);
+    all_resets(left);
+}
+
+// 0 to 17, and as many as can be said.
+fn take_sets(drive: Drive) {
+    for value in 0..18 {
+        take_set(drive, value);
+    }
+    take_set(drive, MOST);
+}
+
+// The resets on a drive that no script leaves, whose LockOnReset is above the greatest set.
+fn hold_set(drive: Drive, value: u64) {
+    let mut made = drive;
+    let mut row = made.rows[0];
+    row.lock_on_reset = value;
+    made.rows[0] = row;
+    print(b"l");
+    print_next(value);
+    all_resets(made);
+}
+
 fn main() {
     let mut input = [0; 8_192];
     let n = io::read_full(0, &mut input);
@@ -411,4 +470,8 @@ fn main() {
     stored_malformed();
     counts(guarded(&SECOND));
     counts(guarded(&NOT_SECOND));
+    take_sets(enabled());
+    hold_set(enabled(), 16);
+    hold_set(enabled(), 40);
+    hold_set(enabled(), MOST);
 }

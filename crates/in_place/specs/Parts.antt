@@ -63,7 +63,7 @@ rowChange count band columns = cond (isRow count band) (C.OneRow band columns) (
 abbrev pub elapseChange : ℕ → Change
 elapseChange ticks = cond (ltb mostTicks ticks) (C.Nothing 2 noReset) (C.Elapse ticks)
 
--- and a reset's type is at most 2
+-- and a reset's type is at most the last
 abbrev pub resetChange : ℕ → Change
 resetChange type = cond (eqb type 0) C.PowerCycle (C.Nothing (cond (ltb lastResetType type) 2 0) type)
 

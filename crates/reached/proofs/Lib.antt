@@ -4,3 +4,4 @@ pub mod Worked
 pub mod Readings
 pub mod Values
 pub mod Door
+pub mod Resets

@@ -3,3 +3,4 @@ pub mod Starred
 pub mod Readings
 pub mod Values
 pub mod Door
+pub mod Resets

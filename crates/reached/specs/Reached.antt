@@ -44,7 +44,7 @@ pub record Stored (x : Expression) : Type 0 where
   pub formed : (list ≡ []) ⊎ (wellFormed list ≡ true)
 
 pub record RowFits (row : Row) : Type 0 where
-  -- "LockOnReset (a set as bits: .. 0 to 7)"
+  -- document 02, #105: "LockOnReset takes 0 to 15"
   pub «lock_on_reset» : row .«lock_on_reset» ≤ allResets
   -- "its expression is the stored list of elements"
   pub expression : Stored (row .expression)

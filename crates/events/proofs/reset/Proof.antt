@@ -1,4 +1,6 @@
 use Rattle.events.proofs.Arms.{reset-refused, reset-replies}
+use lib.Dec.{lit≤}
+use native.Mathlib.Nat.{le-trans}
 use borrow.Author.Needs.{needs}
 use Rattle.events.proofs.reset.Statement.{statement}
 use Rattle.events.proofs.reset.Tie as tie
@@ -7,7 +9,7 @@ refuse-requires : tie.Need-refuse-requires
 refuse-requires c κs = search needs
 
 returns : tie.Need-returns
-returns c = search reset-refused
+returns c = search (reset-refused, le-trans, lit≤)
 
 reset-all-requires : tie.Need-reset-all-requires
 reset-all-requires c κs = search needs

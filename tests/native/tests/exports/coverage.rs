@@ -1,5 +1,6 @@
-//! What the tests reached: answers, stops, moves of phases and levels, Sets of thresholds, places, and ways to be bad.
+//! What the tests reached: answers, stops, moves of phases and levels, Sets of thresholds, resets, places, and ways to be bad.
 use crate::discovery::Written;
+use crate::resets::Resets;
 use crate::scripts::{Damage, DAMAGES};
 use crate::tokens::Broken;
 use std::collections::{BTreeMap, BTreeSet};
@@ -82,6 +83,7 @@ pub struct Coverage {
     at_zero: u64,
     damages: BTreeMap<Damage, [u64; 2]>,
     pub discovery: Written,
+    pub resets: Resets,
 }
 
 impl Coverage {
@@ -180,6 +182,7 @@ impl Coverage {
             println!("damage {how:?}: {bad} bad, {good} still read");
         }
         self.discovery.finish();
+        self.resets.finish();
         for (a, &n) in self.answers.iter().enumerate() {
             assert_eq!(n > 0, a <= 9 || a == 13, "answer {a} was reached {n} times");
         }

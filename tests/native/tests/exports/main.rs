@@ -10,6 +10,7 @@ mod discovery;
 mod library;
 mod program;
 mod random;
+mod resets;
 mod scripts;
 mod tokens;
 
@@ -37,15 +38,17 @@ struct Listing {
     text: Vec<u8>,
     answers: Vec<u8>,
     stops: Vec<u8>,
-    /// The level and the phase of each sensor.
-    sensors: Vec<[u8; 2]>,
+    /// ReadLocked, WriteLocked and the value of each band.
+    bands: Vec<[u8; 3]>,
+    /// The level, the phase, the condition and the timer of each sensor.
+    sensors: Vec<[u32; 4]>,
     bad: Option<usize>,
 }
 
 impl Listing {
     fn of(lister: &mut Lister, script: &[u8]) -> Listing {
         let text = lister.list(script).to_vec();
-        let mut all = Listing { text: vec![], answers: vec![], stops: vec![], sensors: vec![], bad: None };
+        let mut all = Listing { text: vec![], answers: vec![], stops: vec![], bands: vec![], sensors: vec![], bad: None };
         for line in std::str::from_utf8(&text).unwrap().lines() {
             let words: Vec<&str> = line.split(' ').collect();
             let number = |i: usize| words[i].parse::<usize>().unwrap();
@@ -54,7 +57,8 @@ impl Listing {
                     all.answers.push(number(2) as u8);
                     all.stops.push(number(3) as u8);
                 }
-                "s" => all.sensors.push([number(2) as u8, number(3) as u8]),
+                "b" => all.bands.push([2, 3, 4].map(|i| number(i) as u8)),
+                "s" => all.sensors.push([2, 3, 4, 5].map(|i| number(i) as u32)),
                 "f" => all.bad = Some(number(1)),
                 _ => {}
             }
@@ -160,22 +164,25 @@ fn note_expression(event: &Event, answer: u8, reached: &mut Coverage) {
     }
 }
 
-/// The moves of each sensor at each event, from the listings of what the script begins with; one of these is compared too.
+/// The moves of each sensor at each event and what each reset does, from the listings of what the script begins with; one of these is compared
+/// too.
 fn follow(r: &mut Random, lister: &mut Lister, script: &Script, reached: &mut Coverage) {
     let bytes = script.bytes();
     let places = script.places();
     let mut readings = Readings::default();
-    let mut before = Listing::of(lister, &bytes[..places[0]]).sensors;
+    let mut bands = [resets::FRESH; 16];
+    let mut before = Listing::of(lister, &bytes[..places[0]]);
     for (event, &end) in script.events.iter().zip(&places[1..]) {
         let after = Listing::of(lister, &bytes[..end]);
-        for (from, to) in before.iter().zip(&after.sensors) {
-            reached.phase(event.kind, from[1], to[1]);
+        for (from, to) in before.sensors.iter().zip(&after.sensors) {
+            reached.phase(event.kind, from[1] as u8, to[1] as u8);
             if from[1] == 0 && to[1] == 0 {
-                reached.level(event.kind, from[0], to[0]);
+                reached.level(event.kind, from[0] as u8, to[0] as u8);
             }
         }
         note(&mut readings, event, *after.answers.last().unwrap(), reached);
-        before = after.sensors;
+        reached.resets.follow(&mut bands, event, &before, &after);
+        before = after;
     }
     let part = &bytes[..r.pick(&places)];
     let expected = Listing::of(lister, part);

@@ -4,6 +4,9 @@ use crate::{random::Random, tokens};
 
 const WIDE: [u64; 7] = [1 << 32, (1 << 32) - 1, 4_294_967_295_999, 4_294_967_296_000, 1 << 48, 1 << 63, u64::MAX];
 
+/// What is no reset type (#105), the bits of types and what the code uses for none among them.
+pub const NO_TYPES: [u64; 8] = [4, 5, 8, 15, 16, 255, 256, 1 << 32];
+
 /// A number in groups of seven bits, low group first.
 pub fn put(to: &mut Vec<u8>, mut n: u64) {
     while n > 127 {
@@ -44,8 +47,14 @@ impl Event {
 impl Event {
     /// Whether a band Set names ReadLockEnabled as 1 and ReadLocked as 0.
     pub fn unlocks(&self) -> bool {
+        self.named(0) == Some(1) && self.named(2) == Some(0)
+    }
+
+    /// The value that a Set names for the column of this bit.
+    pub fn named(&self, bit: usize) -> Option<u64> {
         let mask = self.fields[1];
-        mask & 5 == 5 && self.fields[2] == 1 && self.fields[3 + (mask >> 1 & 1) as usize] == 0
+        let place = 2 + (mask & ((1 << bit) - 1)).count_ones() as usize;
+        (mask >> bit & 1 == 1).then(|| self.fields[place])
     }
 
     /// Its fields as a direct call takes them: a Set has a value for every column, and those that its mask does not name may be anything.
@@ -160,6 +169,15 @@ fn sensor_set(r: &mut Random, sensors: u64) -> Event {
     Event::new(4, &fields)
 }
 
+/// Mostly a set of the four types, else one that is too great.
+fn lock_on_reset(r: &mut Random) -> u64 {
+    match r.below(20) {
+        0 => r.pick(&[16, 17, 24, 31, 32, 255, 256]),
+        1 => r.pick(&WIDE),
+        _ => r.below(16),
+    }
+}
+
 fn band_set(r: &mut Random, bands: u64, sensors: u64) -> Event {
     let mask = mask(r, 63);
     let mut fields = vec![row(r, bands), mask];
@@ -167,7 +185,7 @@ fn band_set(r: &mut Random, bands: u64, sensors: u64) -> Event {
         if mask >> bit & 1 == 1 {
             fields.push(match bit {
                 0 | 1 => value(r, 2) | r.below(2),
-                4 => value(r, 8),
+                4 => lock_on_reset(r),
                 _ => value(r, 2),
             });
         }
@@ -186,7 +204,7 @@ pub fn event(r: &mut Random, [capacity, bands, sensors]: [u64; 3]) -> Event {
             Event::new(1, &[row(r, sensors), reading])
         }
         4 | 5 => Event::new(2, &[value(r, 6)]),
-        6 => Event::new(3, &[value(r, 3)]),
+        6 => Event::new(3, &[if r.one_in(10) { r.pick(&NO_TYPES) } else { value(r, 4) }]),
         7..=9 => sensor_set(r, sensors),
         10..=12 => band_set(r, bands, sensors),
         13 => Event::new(6, &[row(r, bands), block(r, capacity), blocks(r, capacity)]),
@@ -213,7 +231,7 @@ fn lively(r: &mut Random, [capacity, bands, sensors]: [u64; 3]) -> Vec<Event> {
     let part = capacity / bands;
     for band in 0..bands {
         let locked = [r.below(2), r.below(2)];
-        let mut set = Event::new(5, &[band, 63, 1, r.below(2), locked[0], locked[1], r.below(8)]);
+        let mut set = Event::new(5, &[band, 63, 1, r.below(2), locked[0], locked[1], r.below(16)]);
         set.tokens = Some(tokens::unlimited(&tokens::postfix(r, sensors)));
         events.push(set);
         if band > 0 {
