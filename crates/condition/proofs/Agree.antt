@@ -31,19 +31,16 @@ use Rattle.band.specs.declared.Row.{Row}
 use Rattle.band_columns.specs.declared.BandColumns.{BandColumns}
 use Rattle.band.specs.Rows.{freshRow, valueIn, lockUnder, settleRow, inSet, resetRow}
 use Rattle.band_columns.specs.Sets.{formedRow, heldBy}
-use Rattle.band.proofs.Settling.{settle-again, fresh-settles, fresh-reset}
+use Rattle.band.proofs.Settling.{settle-again, fresh-reset}
 use Rattle.drive.specs.declared.Drive.{Drive}
 use Rattle.drive.specs.State.{withRows, withSensors, conditionsOf, rowAt, sensorAt, valueAt, settleOf, tickOf}
 use Rattle.drive.specs.Events.{Shape, ticking, resetting, setting, sensing, placing, looking, shapeOf, ifSetting, actBy}
 use Rattle.drive.specs.Events.{Event, bandSet, noRow, rowRefusalsIf, refusalsBy, heldUnder, formedFrom, answerOf, resetOf, actOf, stepOf}
+use Rattle.drive.proofs.Settling.{settle-at}
 use Rattle.condition.specs.History.{granted}
 use Rattle.condition.specs.Compared.{staysBy, mentionedIn, refersIn, stays}
 
 -- ---- one row of a drive
-
-pub settle-at : (d : Drive) (b : ℕ) → rowAt (settleOf d) b ≡ settleRow (conditionsOf d) (rowAt d b)
-unfolding settleOf
-settle-at d b = getD-map (settleRow (conditionsOf d)) freshRow (fresh-settles (conditionsOf d)) (d .rows) b
 
 pub reset-at : (t : ℕ) (d : Drive) (b : ℕ) → rowAt (resetOf t d) b ≡ resetRow t (rowAt d b)
 reset-at t d b = getD-map (resetRow t) freshRow (fresh-reset t) (d .rows) b

@@ -20,11 +20,12 @@ use Rattle.band.proofs.Settling.{fresh-settles, fresh-reset}
 use Rattle.drive.specs.declared.Drive.{Drive}
 use Rattle.drive.specs.State.{freshDrive, conditionsOf, rowAt, valueAt, settleOf, fallOf, tickOf}
 use Rattle.drive.specs.Events.{Event, bandSet, Shape, ticking, resetting, setting, sensing, placing, looking, shapeOf, actBy, actOf, stepOf, runOf}
+use Rattle.drive.proofs.Settling.{settle-at}
 use Rattle.condition.specs.History.{granted, ownSet}
 use Rattle.condition.specs.Compared.{staysBy, mentionedIn, refersIn, namedIn, stays, keep, only, compared}
 use Rattle.condition.specs.Condition.{SameBand}
 use Rattle.condition.specs.Corollaries.{All, isTime, Corollaries}
-use Rattle.condition.proofs.Agree.{settle-at, reset-at}
+use Rattle.condition.proofs.Agree.{reset-at}
 use Rattle.condition.proofs.Isolation.{no-own-set, fresh-at, kept-alone, isolation}
 
 -- ---- one event struck

@@ -30,6 +30,7 @@ use Rattle.drive.specs.Events.{Shape, ticking, resetting, setting, sensing, pla
 use Rattle.drive.specs.Events.{Event, formedFrom, refusalsBy, answerOf, actBy, actOf, stepOf, runOf}
 use Rattle.drive.proofs.Answers.{granted-free}
 use Rattle.drive.proofs.Keeping.{step-keeps}
+use Rattle.drive.proofs.Settling.{settle-at}
 use Rattle.condition.specs.History.{
   Moment,
   ended,
@@ -42,7 +43,7 @@ use Rattle.condition.specs.History.{
   LockedByHistory,
 }
 use Rattle.condition.proofs.Flags.{flagAfter, after-append, Last, from-last, to-last}
-use Rattle.condition.proofs.Agree.{Settled, settle-at, reset-at, step-settled}
+use Rattle.condition.proofs.Agree.{Settled, reset-at, step-settled}
 use Rattle.condition.proofs.Isolation.{fresh-at, fresh-settled}
 
 -- ---- the side's Locked column along the moments

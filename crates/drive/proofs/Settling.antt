@@ -5,17 +5,18 @@ use Prim.Native.Nat.{ℕ, _+_, _<_, _≤_}
 use lib.Dec.{eqb}
 use lib.ListN.{length, getD, set}
 use Rattle.base.proofs.Cases.{cond-either}
+use Rattle.base.proofs.Lists.{getD-map}
 use Rattle.base.proofs.Loops.{Mapped, map-begin, map-again, map-skip, map-done}
 use mathlib.Core.List.{List, [], _∷_, map}
 use Rattle.sensor.specs.declared.single.Sensor.{Sensor}
 use Rattle.sensors.specs.Sixteen.{conditionsBelow}
 use Rattle.band.specs.declared.Row.{Row}
-use Rattle.band.specs.Rows.{settleRow}
+use Rattle.band.specs.Rows.{freshRow, settleRow}
 use Rattle.band.specs.Parts.{isLockable}
-use Rattle.band.proofs.Settling.{not-lockable, settle-again}
+use Rattle.band.proofs.Settling.{not-lockable, settle-again, fresh-settles}
 use Rattle.drive.specs.declared.Drive.{Drive}
 use Rattle.drive.specs.Events.{Event, answerOf, actOf, stepOf}
-use Rattle.drive.specs.State.{withRows, withSensors, conditionsOf, settleOf, tickOf, fallOf}
+use Rattle.drive.specs.State.{withRows, withSensors, conditionsOf, rowAt, settleOf, tickOf, fallOf}
 
 -- ---- the loop that settles the rows in place
 
@@ -57,6 +58,11 @@ settle-done d₀ d cs i s h =
 rows-again : (cs : List Bool) (l : List Row) → map (settleRow cs) (map (settleRow cs) l) ≡ map (settleRow cs) l
 rows-again cs [] = refl
 rows-again cs (x ∷ l) = λ i. settle-again cs x i ∷ rows-again cs l i
+
+-- one row of a drive that has settled
+pub settle-at : (d : Drive) (b : ℕ) → rowAt (settleOf d) b ≡ settleRow (conditionsOf d) (rowAt d b)
+unfolding settleOf
+settle-at d b = getD-map (settleRow (conditionsOf d)) freshRow (fresh-settles (conditionsOf d)) (d .rows) b
 
 -- settling twice is settling once
 pub settle-twice : (d : Drive) → settleOf (settleOf d) ≡ settleOf d

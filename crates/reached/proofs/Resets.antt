@@ -21,7 +21,7 @@ use Rattle.band.specs.declared.Side.the-variants.{Read, Write}
 use Rattle.band.specs.declared.Row.{Row}
 use Rattle.band.specs.Rows.{freshRow, enabledOn, lockedOn, valueIn, lockUnder, settleRow, allResets, resetRow}
 use Rattle.band.specs.Parts.{locksBy}
-use Rattle.band.proofs.Settling.{reset-settle, fresh-settles}
+use Rattle.band.proofs.Settling.{reset-settle}
 use Rattle.band_columns.specs.declared.BandColumns.{BandColumns}
 use Rattle.band_columns.specs.Sets.{bandMasks, columnsFit, formedRow}
 use Rattle.band_columns.proofs.Fits.{fitting}
@@ -30,6 +30,7 @@ use Rattle.sensor.specs.Single.{powerCycleOf}
 use Rattle.drive.specs.State.{withRows, withSensors, conditionsOf, rowAt, valueAt, settleOf}
 use Rattle.drive.specs.Events.{reset, bandSet, noRow, tokensAnswer, malformedIn, formedFrom, heldUnder, answerOf, actOf, stepOf, stopsOf}
 use Rattle.drive.proofs.Answers.{no-band, reset-answered, reset-refused, refused-stays, granted-acts}
+use Rattle.drive.proofs.Settling.{settle-at}
 use Rattle.reached.specs.Reached.{Reached}
 use Rattle.reached.specs.Resets.{resetBy, withSet, ProgrammaticReset}
 
@@ -81,13 +82,11 @@ by-the-set false true false false e = refl
 
 settled-side : (d : Drive) → Reached d → (band : ℕ) (side : Side)
     → (lockedOn side (rowAt d band) || (enabledOn side (rowAt d band) && isTrue (valueAt d band))) ≡ lockedOn side (rowAt d band)
-unfolding settleOf settleRow
+unfolding settleRow
 settled-side d r band side = go side
   where
     row : settleRow (conditionsOf d) (rowAt d band) ≡ rowAt d band
-    row =
-        sym (getD-map (settleRow (conditionsOf d)) freshRow (fresh-settles (conditionsOf d)) (d .rows) band)
-        ∙ ap (λ (x : Drive). rowAt x band) (r .settled)
+    row = sym (settle-at d band) ∙ ap (λ (x : Drive). rowAt x band) (r .settled)
 
     go : (s : Side) → (lockedOn s (rowAt d band) || (enabledOn s (rowAt d band) && isTrue (valueAt d band))) ≡ lockedOn s (rowAt d band)
     go Read = ap (λ (x : Row). x .«read_locked») row
@@ -135,16 +134,13 @@ module _ (d : Drive) (band : ℕ) (c : BandColumns) (bytes : List ℕ) (n : name
 
   stored : length (d .rows) ≡ 16 → answerOf d (bandSet band c bytes) ≡ 0
       → rowAt (stepOf d (bandSet band c bytes)) band .«lock_on_reset» ≡ c .«lock_on_reset»
-  unfolding actOf settleOf settleRow formedRow
+  unfolding actOf settleRow formedRow
   stored long z =
       ap (λ (x : Drive). rowAt x band .«lock_on_reset») (sym (granted-acts d (bandSet band c bytes) 0 (sym z) refl .0))
-      ∙ ap (λ (row : Row). row .«lock_on_reset») (getD-map (settleRow (conditionsOf after)) freshRow (fresh-settles (conditionsOf after)) (after .rows) band)
+      ∙ ap (λ (row : Row). row .«lock_on_reset») (settle-at (actOf d (bandSet band c bytes)) band)
       ∙ ap (λ (row : Row). row .«lock_on_reset») (modify-same (formedFrom c bytes) freshRow (d .rows) band (omega (arith, long, place)))
       ∙ sym (cond-true (named 16 (c .mask)) _ _ _ n refl)
     where
-      after : Drive
-      after = actOf d (bandSet band c bytes)
-
       there : (b : Bool) → isRow (d .«band_count») band ≡ b → b ≡ true
       there true e = refl
       there false e = absurd (omega (arith, z, no-band d band c bytes true (sym (ap not e)) refl))
