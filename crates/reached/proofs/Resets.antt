@@ -4,7 +4,7 @@ use mathlib.Core.Path.{_≡_, refl, sym, ap, ap₂, _∙_}
 use native.Mathlib.Omega.{arith}
 use mathlib.Core.Bool.{Bool, true, false, not, cond, _&&_, _||_, false≢true}
 use mathlib.Core.List.{List, [], _∷_, map}
-use lib.Dec.{eqb, ltb}
+use lib.Dec.{eqb, leb, ltb}
 use lib.ListN.{length}
 use borrow.Author.Tests.{ne-eqb, le-leb}
 use Rattle.base.specs.Columns.{named, within}
@@ -32,7 +32,7 @@ use Rattle.drive.specs.Events.{reset, bandSet, noRow, tokensAnswer, malformedIn
 use Rattle.drive.proofs.Answers.{no-band, reset-answered, reset-refused, refused-stays, granted-acts}
 use Rattle.drive.proofs.Settling.{settle-at}
 use Rattle.reached.specs.Reached.{Reached}
-use Rattle.reached.specs.Resets.{resetBy, withSet, ProgrammaticReset}
+use Rattle.reached.specs.Resets.{resetBy, lockOnResetAlone, withSet, ProgrammaticReset}
 
 no-stops : (d : Drive) (type : ℕ) → stopsOf d (reset type) ≡ 0
 unfolding stopsOf
@@ -174,6 +174,12 @@ up-to-15 d band set c bytes h k =
     ∷ []))
     (alike set c h k)
 
+alone : (d : Drive) (band set : ℕ) → isRow (d .«band_count») band ≡ true → set ≤ 15 → answerOf d (bandSet band (lockOnResetAlone set) []) ≡ 0
+unfolding answerOf columnsFit
+alone d band set r h =
+    ap (λ (there : Bool). cond (not there) 1 (cond (not (leb set 15) || false) 2 0)) r
+    ∙ ap (λ (fits : Bool). cond (not fits || false) 2 0) (le-leb set 15 h)
+
 pub programmatic-reset : ProgrammaticReset
 programmatic-reset = record {
   done = λ d type h. sym (reset-answered d type (omega (arith, h)));
@@ -189,6 +195,7 @@ programmatic-reset = record {
   values-stay = values-stay;
   above-15 = λ d band c bytes n h. above-15 d band c bytes n (omega (arith, h));
   above-15-kept = λ d band c bytes n h. above-15-kept d band c bytes n (omega (arith, h));
+  alone = λ d band set r h. alone d band set r (omega (arith, h));
   up-to-15 = λ d band set c bytes h k. up-to-15 d band set c bytes (omega (arith, h)) (omega (arith, k));
   stored = λ d band c bytes long n z. stored d band c bytes n long z;
 }

@@ -3,7 +3,7 @@
 use Prim.Native.Nat.{ℕ, _≤_, _<_}
 use mathlib.Core.Path.{_≡_}
 use mathlib.Core.Bool.{true, cond, _&&_, _||_}
-use mathlib.Core.List.{List, map}
+use mathlib.Core.List.{List, [], map}
 use lib.ListN.{length}
 use Rattle.base.specs.Columns.{named}
 use Rattle.base.specs.Rows.{isRow}
@@ -21,6 +21,17 @@ use Rattle.reached.specs.Reached.{Reached}
 -- stay as they are
 abbrev pub resetBy : ℕ → Drive → Row → Row
 resetBy bit d row = lockUnder (named bit (row .«lock_on_reset») || isTrue (valueIn (conditionsOf d) row)) row
+
+-- a Set that names LockOnReset alone
+abbrev pub lockOnResetAlone : ℕ → BandColumns
+lockOnResetAlone set = record {
+  mask = 16;
+  «read_lock_enabled» = 0;
+  «write_lock_enabled» = 0;
+  «read_locked» = 0;
+  «write_locked» = 0;
+  «lock_on_reset» = set;
+}
 
 -- a Set with another LockOnReset
 abbrev pub withSet : ℕ → BandColumns → BandColumns
@@ -61,7 +72,8 @@ pub record ProgrammaticReset : Type 0 where
       → answerOf d (bandSet band c bytes) ≡ cond (isRow (d .«band_count») band) 2 1
   pub above-15-kept : (d : Drive) (band : ℕ) (c : BandColumns) (bytes : List ℕ) → named 16 (c .mask) ≡ true → 15 < c .«lock_on_reset»
       → stepOf d (bandSet band c bytes) ≡ d
-  -- none of the sixteen is refused where another is granted
+  -- alone each of the sixteen is granted, on every drive that has the band, and beside other columns none is refused where another is granted
+  pub alone : (d : Drive) (band set : ℕ) → isRow (d .«band_count») band ≡ true → set ≤ 15 → answerOf d (bandSet band (lockOnResetAlone set) []) ≡ 0
   pub up-to-15 : (d : Drive) (band set : ℕ) (c : BandColumns) (bytes : List ℕ) → set ≤ 15 → c .«lock_on_reset» ≤ 15
       → answerOf d (bandSet band (withSet set c) bytes) ≡ answerOf d (bandSet band c bytes)
   -- and the one that a granted Set names is stored
