@@ -28,7 +28,7 @@ pub record ResetTypes : Type 0 where
   pub has : (chosen : ℕ → Bool) (type : ℕ) → type ≤ lastResetType → inSet (setOf chosen) type ≡ chosen type
   -- and each set in that range is the set of its types: no two have the same
   pub as-bits : (set : ℕ) → set ≤ allResets → setOf (inSet set) ≡ set
-  -- what is no type is in no set, also in none that no Set can store
+  -- what is no type is in no set, not even in one that no Set can store
   pub no-other : (set type : ℕ) → lastResetType < type → inSet set type ≡ false
   -- "Fresh: .. LockOnReset 1": the power cycle alone
   pub fresh : (type : ℕ) → inSet (freshRow .«lock_on_reset») type ≡ eqb type 0
