@@ -1,2 +1,3 @@
 pub mod Anyway
 pub mod Telling
+pub mod Scripts

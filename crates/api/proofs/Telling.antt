@@ -6,19 +6,17 @@ use native.Mathlib.Omega.{arith}
 use mathlib.Core.Bool.{Bool, true, false, cond}
 use mathlib.Core.List.{List, [], _++_}
 use lib.Dec.{eqb, leb}
-use lib.ListN.{length, getD, take, replicate, length-append, length-map, length-replicate, List·getD-eq-default}
+use lib.ListN.{length, getD, take, replicate, length-append, length-map, length-replicate}
 use lib.Seq.{take-append-seam}
 use borrow.Author.Tests.{le-leb, lt-leb, eq-eqb, ne-eqb}
 use Rattle.base.specs.Refusals.{orderOf}
 use Rattle.base.proofs.Refusals.{own-place}
 use Rattle.base.specs.Lists.{oneIf}
-use Rattle.base.specs.Spliced.{over}
+use Rattle.base.proofs.Spliced.{spliced-over}
 use Rattle.answer.specs.Numbers.{numberOf}
 use Rattle.output.specs.declared.Written.{Written}
-use Rattle.output.specs.Filling.{outputAfter, writtenAfter, Told, told, toldIn, fillAnswer, filledBy}
-use Rattle.output.proofs.Filled.{filled-short, filled-whole, written-bytes}
-use Rattle.sensor_set.specs.declared.SensorColumns.{SensorColumns}
-use Rattle.band_columns.specs.declared.BandColumns.{BandColumns}
+use Rattle.output.specs.Filling.{outputAfter, writtenAfter, Told, told, toldIn, fillAnswer, filledBy, splicedWithin}
+use Rattle.output.proofs.Filled.{filled-short, filled-whole, written-bytes, put-fits}
 use Rattle.expression.specs.declared.Element.{Element}
 use Rattle.expression.specs.declared.Expression.{Expression}
 use Rattle.expression.specs.Elements.{blank, elementsIn}
@@ -30,10 +28,10 @@ use Rattle.token_writer.proofs.Arms.{codes-taken, elements-taken}
 use Rattle.drive.specs.declared.Fresh.{Fresh}
 use Rattle.drive.specs.declared.Drive.{Drive}
 use Rattle.drive.specs.declared.Kind.{Kind}
-use Rattle.drive.specs.declared.Kind.the-variants as K
 use Rattle.drive.specs.declared.Reply.{Reply}
 use Rattle.drive.specs.State.{mostBlocks, mostBands, mostSensors, headerFits, freshDrive, Freshens}
 use Rattle.drive.specs.Events.{Event, answerOf, stopsOf, eventOf, runOf, Replies}
+use Rattle.event_form.specs.Kinds.{kindOf}
 use Rattle.script.specs.Whole.{Script, accepted, bad}
 use Rattle.run.specs.declared.Ran.{Ran}
 use Rattle.run.specs.declared.LeftDrive.{LeftDrive}
@@ -56,9 +54,6 @@ use Rattle.api.specs.Exports.{
   FreshTold,
   freshTo,
   freshTold,
-  sensorColumns,
-  bandColumns,
-  kindOf,
   EventTold,
   answered,
   upToSix,
@@ -116,8 +111,9 @@ module _ (former : ℕ) (codes lent : List ℕ) where
   pub hand-refused : length lent < length codes → told 11 former lent ≡ leaving former (filledBy codes lent)
   hand-refused h = ap (leaving former) (filled-short codes lent h)
 
-  pub hand-told : (after : List ℕ) → length codes ≤ length lent → after ≡ over codes lent → told 0 (length codes) after ≡ leaving former (filledBy codes lent)
-  hand-told after h e = ap (leaving former) (filled-whole codes lent after h e)
+  pub hand-told : (after : List ℕ) → length codes ≤ length lent → after ≡ splicedWithin lent 0 codes → told 0 (length codes) after ≡ leaving former (filledBy codes lent)
+  hand-told after h e =
+      ap (leaving former) (filled-whole codes lent after h (spliced-over lent codes after (put-fits lent 0 codes after (omega arith) e)))
 
 -- ---- a run
 
@@ -225,73 +221,6 @@ read-again bytes r codes lent after former number count answer e n z b w q =
     ap bytesOf f ∙ b (sym n ∙ z)
 
 -- ---- one event
-
-pub past-end : (fields : List ℕ) (at : ℕ) → length fields ≤ at → 0 ≡ getD fields at 0
-past-end fields at h = sym (List·getD-eq-default fields 0 h)
-
--- the columns of a Set, from their numbers
-
-abbrev bandColumnsOf : ℕ → ℕ → ℕ → ℕ → ℕ → ℕ → BandColumns
-bandColumnsOf mask a b c d e = record {
-  mask = mask;
-  «read_lock_enabled» = a;
-  «write_lock_enabled» = b;
-  «read_locked» = c;
-  «write_locked» = d;
-  «lock_on_reset» = e;
-}
-
-abbrev sensorColumnsOf : ℕ → ℕ → ℕ → ℕ → ℕ → ℕ → ℕ → ℕ → SensorColumns
-sensorColumnsOf mask a b c d e f g = record {
-  mask = mask;
-  enabled = a;
-  «on_threshold» = b;
-  «on_fraction» = c;
-  «on_timeout» = d;
-  «off_threshold» = e;
-  «off_fraction» = f;
-  «off_timeout» = g;
-}
-
-module _ (fields : List ℕ) (mask a b c d e : ℕ) (m : mask ≡ getD fields 1 0) (p : a ≡ getD fields 2 0) (q : b ≡ getD fields 3 0) (r : c ≡ getD fields 4 0)
-    (s : d ≡ getD fields 5 0) (t : e ≡ getD fields 6 0) where
-  pub band-columns-are : bandColumnsOf mask a b c d e ≡ bandColumns fields
-  band-columns-are = rw (m, p, q, r, s, t)
-
-  pub sensor-columns-are : (f g : ℕ) → f ≡ getD fields 7 0 → g ≡ getD fields 8 0 → sensorColumnsOf mask a b c d e f g ≡ sensorColumns fields
-  sensor-columns-are f g u v = rw (m, p, q, r, s, t, u, v)
-
--- the event of a kind, from its fields
-
-module _ (kind : ℕ) (fields : List ℕ) (a b c : ℕ) (p : a ≡ getD fields 0 0) (q : b ≡ getD fields 1 0) (r : c ≡ getD fields 2 0) where
-  pub reading-of : kind ≡ 1 → K.Reading a b ≡ kindOf kind fields
-  unfolding kindOf
-  reading-of h = rw (h, p, q)
-
-  pub elapse-of : kind ≡ 2 → K.Elapse a ≡ kindOf kind fields
-  unfolding kindOf
-  elapse-of h = rw (h, p)
-
-  pub reset-of : kind ≡ 3 → K.Reset a ≡ kindOf kind fields
-  unfolding kindOf
-  reset-of h = rw (h, p)
-
-  pub sensor-set-of : (columns : SensorColumns) → columns ≡ sensorColumns fields → kind ≡ 4 → K.SensorSet a columns ≡ kindOf kind fields
-  unfolding kindOf
-  sensor-set-of columns e h = rw (h, p, e)
-
-  pub band-set-of : (columns : BandColumns) → columns ≡ bandColumns fields → kind ≡ 5 → K.BandSet a columns ≡ kindOf kind fields
-  unfolding kindOf
-  band-set-of columns e h = rw (h, p, e)
-
-  pub geometry-of : kind ≡ 6 → K.Geometry a b c ≡ kindOf kind fields
-  unfolding kindOf
-  geometry-of h = rw (h, p, q, r)
-
-  pub transfer-of : kind ≢ 1 → kind ≢ 2 → kind ≢ 3 → kind ≢ 4 → kind ≢ 5 → kind ≢ 6 → K.Transfer a b c ≡ kindOf kind fields
-  unfolding kindOf
-  transfer-of h i j k l m =
-      rw (ne-eqb kind 1 h, ne-eqb kind 2 i, ne-eqb kind 3 j, ne-eqb kind 4 k, ne-eqb kind 5 l, ne-eqb kind 6 m, p, q, r)
 
 module _ (script : Script) (kind : ℕ) (fields tokens : List ℕ) (stops place : ℕ) where
   pub no-kind : kind < 1 → answered 2 stops place ≡ eventTold script kind fields tokens stops place

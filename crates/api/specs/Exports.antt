@@ -5,26 +5,26 @@ use mathlib.Core.Path.{_≡_}
 use mathlib.Core.Bool.{Bool, true, cond, _&&_}
 use mathlib.Core.List.{List}
 use lib.Dec.{eqb, leb}
-use lib.ListN.{length, getD, take}
+use lib.ListN.{length, take}
 use Rattle.base.specs.Lists.{oneIf}
 use Rattle.base.specs.Refusals.{applying, orderOf}
 use Rattle.output.specs.Filling.{Told, told, toldBy, filledBy}
-use Rattle.sensor_set.specs.declared.SensorColumns.{SensorColumns}
 use Rattle.token_reader.specs.Format.{bytesOf}
 use Rattle.token_reader.specs.Read.{TokenOutcome, elements, refusal, readTokens}
 use Rattle.token_writer.specs.Write.{codesOf, elementsOf, writeAnswer}
-use Rattle.band_columns.specs.declared.BandColumns.{BandColumns}
 use Rattle.drive.specs.declared.Drive.{Drive}
-use Rattle.drive.specs.declared.Kind.{Kind}
-use Rattle.drive.specs.declared.Kind.the-variants as K
 use Rattle.drive.specs.State.{mostBlocks, mostBands, mostSensors, headerFits, freshDrive}
 use Rattle.drive.specs.Events.{Event, refusals, answerOf, stopsOf, eventOf, runOf}
 use Rattle.discovery_answer.specs.Write.{discoveryOf}
 use Rattle.discovery_answer.specs.Read.{readAnswer, shownIn}
 use Rattle.discovery_answer.specs.Answers.{ShowsDrive}
 use Rattle.numbers.specs.Groups.{badScript}
+use Rattle.event_form.specs.Kinds.{kindOf}
+use Rattle.event_form.specs.Parts.{Flat}
 use Rattle.event_reader.specs.Fields.{kinds}
 use Rattle.script.specs.Whole.{Script, accepted, bad}
+use Rattle.script_writer.specs.Write.{ReadsTo}
+use Rattle.script_reader.specs.Read.{ReadTold, readTo, ComesOutOf}
 use Rattle.run.specs.Outcome.{RunOutcome, outcome}
 
 -- "Any refusal leaves the drive and all lent bytes untouched", and a number behind a `&mut` too: only answer 0 writes it
@@ -71,42 +71,6 @@ freshTold capacity bands sensors =
     cond (headerFits capacity bands sensors) (freshTo 0 capacity bands sensors) (freshTo 2 1 1 0)
 
 -- ---- one event on the drive that a script leaves
-
--- a Set's fields: its row, its mask, and a number for each column by rising bit, named or not; 0 where the list has ended
-
-abbrev pub sensorColumns : List ℕ → SensorColumns
-sensorColumns fields = record {
-  mask = getD fields 1 0;
-  enabled = getD fields 2 0;
-  «on_threshold» = getD fields 3 0;
-  «on_fraction» = getD fields 4 0;
-  «on_timeout» = getD fields 5 0;
-  «off_threshold» = getD fields 6 0;
-  «off_fraction» = getD fields 7 0;
-  «off_timeout» = getD fields 8 0;
-}
-
-abbrev pub bandColumns : List ℕ → BandColumns
-bandColumns fields = record {
-  mask = getD fields 1 0;
-  «read_lock_enabled» = getD fields 2 0;
-  «write_lock_enabled» = getD fields 3 0;
-  «read_locked» = getD fields 4 0;
-  «write_locked» = getD fields 5 0;
-  «lock_on_reset» = getD fields 6 0;
-}
-
--- "Events: 1 reading (sensor, value); 2 elapse (n); 3 reset (type); 4 sensor Set ..; 5 band Set ..; 6 geometry (band, start, length);
--- 7 transfer (0 read or 1 write, start, count)."
-unfoldable pub kindOf : ℕ → List ℕ → Kind
-kindOf kind fields =
-    cond (eqb kind 1) (K.Reading (getD fields 0 0) (getD fields 1 0))
-    (cond (eqb kind 2) (K.Elapse (getD fields 0 0))
-    (cond (eqb kind 3) (K.Reset (getD fields 0 0))
-    (cond (eqb kind 4) (K.SensorSet (getD fields 0 0) (sensorColumns fields))
-    (cond (eqb kind 5) (K.BandSet (getD fields 0 0) (bandColumns fields))
-    (cond (eqb kind 6) (K.Geometry (getD fields 0 0) (getD fields 1 0) (getD fields 2 0))
-    (K.Transfer (getD fields 0 0) (getD fields 1 0) (getD fields 2 0)))))))
 
 -- answer, stops and place
 pub data EventTold : Type 0 where
@@ -179,3 +143,21 @@ shownTold bytes locking ranges flags =
     let features = shownIn bytes in
     shownTo answer (written answer (oneIf (features .locking)) locking) (written answer (oneIf (features .ranges)) ranges)
     (written answer (features .flags) flags)
+
+-- ---- scripts written and read (document 02, #106)
+
+-- "Reading what it wrote gives the same events": where 0 is returned, so many bytes of the output read to the header and the events that were given
+abbrev pub ScriptReadsTo : (capacity bands sensors : ℕ) → Flat → (answer count : ℕ) → List ℕ → Type 0
+ScriptReadsTo capacity bands sensors f answer count after = answer ≡ 0 → ReadsTo capacity bands sensors f (take count after)
+
+-- a script read, with the numbers that stood there before: "Answer 10 carries a place", and only answer 0 writes the others
+abbrev pub readLeaving : (place capacity bands sensors fieldCount tokenCount : ℕ) → ReadTold → ReadTold
+readLeaving place capacity bands sensors fieldCount tokenCount (readTo answer at c b s f t fields tokens) =
+    readTo answer (cond (eqb answer badScript) at place) (written answer c capacity) (written answer b bands) (written answer s sensors)
+    (written answer f fieldCount) (written answer t tokenCount) fields tokens
+
+-- "and an accepted script comes out again byte by byte": where 0 is returned, these are the bytes of the header and of the events of which so many
+-- numbers and bytes are the flat form
+abbrev pub ScriptComesOut : (script : List ℕ) → (answer capacity bands sensors fieldCount tokenCount : ℕ) → (fields tokens : List ℕ) → Type 0
+ScriptComesOut script answer capacity bands sensors fieldCount tokenCount fields tokens =
+    answer ≡ 0 → ComesOutOf capacity bands sensors (take fieldCount fields) (take tokenCount tokens) script

@@ -1,14 +1,15 @@
 // The functions that programs in other languages link: numbers and slices of numbers, and every result a number. A result beside the
 // answer is written through a `&mut` of its own, and a refusal leaves what was there.
 ghost use mathlib.Core.Path.{_≡_};
-ghost use Prim.Native.Nat.{ℕ, _≤_};
-ghost use lib.ListN.{length, getD};
+ghost use Prim.Native.Nat.{ℕ};
 ghost use Rattle.base.specs.Lists.{oneIf};
-ghost use Rattle.base.specs.Spliced.{over};
 ghost use Rattle.output.specs.Filling.{told, filledBy};
 ghost use Rattle.token_reader.specs.Read.{readTokens};
 ghost use Rattle.drive.specs.Events.{eventOf};
 ghost use Rattle.script.specs.Whole.{readScript};
+ghost use Rattle.event_form.specs.Parts.{eventsOf};
+ghost use Rattle.script_writer.specs.Write.{scriptTold};
+ghost use Rattle.script_reader.specs.Read.{readTo, flatTold};
 ghost use Rattle.run.specs.Outcome.{runScript};
 ghost use Rattle.report.specs.Listing.{listing};
 ghost use Rattle.api.specs.Exports.{
@@ -21,9 +22,6 @@ ghost use Rattle.api.specs.Exports.{
   WrittenAgainFrom,
   freshTo,
   freshTold,
-  sensorColumns,
-  bandColumns,
-  kindOf,
   answered,
   refusedAnyway,
   refusedEvent,
@@ -33,11 +31,12 @@ ghost use Rattle.api.specs.Exports.{
   ShowsLeft,
   shownTo,
   shownTold,
+  ScriptReadsTo,
+  readLeaving,
+  ScriptComesOut,
 };
-use band_columns::BandColumns;
 use drive::Drive;
 use drive::Kind;
-use sensor_set::SensorColumns;
 
 // Answers that the calls give or look for themselves.
 const OUT_OF_RANGE: u8 = 2;
@@ -95,18 +94,6 @@ pub extern "C" fn drive_run(
     number
 }
 
-// Copies numbers to the output's start.
-fn copy(out: &mut [u64], codes: &[u64])
-    requires { ⌜ length (now codes) ≤ length (now out) ⌝ }
-    ensures { λ _. ⌜ now (out .exit) ≡ over (now (codes .entry)) (now (out .entry)) ⌝ }
-{
-    let mut i = 0;
-    while i < codes.len() {
-        out[i] = codes[i];
-        i += 1;
-    }
-}
-
 // Hands numbers over where they fit, and tells how many.
 fn hand(codes: &[u64], out: &mut [u64], count: &mut usize) -> u8
     ensures { λ r. ⌜ told r (now (count .exit)) (now (out .exit)) ≡ leaving (now (count .entry)) (filledBy (now (codes .entry)) (now (out .entry))) ⌝ }
@@ -115,7 +102,7 @@ fn hand(codes: &[u64], out: &mut [u64], count: &mut usize) -> u8
     if out.len() < length {
         return SHORT_BUFFER;
     }
-    copy(out, codes);
+    output::put_numbers(out, 0, codes);
     *count = length;
     0
 }
@@ -175,91 +162,6 @@ pub extern "C" fn drive_fresh(
     *sensor_count = drive.sensor_count;
     let answer = fresh.answer;
     answer.number()
-}
-
-// A number of a list, 0 past its end.
-fn field(fields: &[u64], at: usize) -> u64
-    ensures { λ r. ⌜ r ≡ getD (now (fields .entry)) at 0 ⌝ }
-{
-    if at < fields.len() {
-        return fields[at];
-    }
-    0
-}
-
-fn sensor_columns(fields: &[u64]) -> SensorColumns
-    ensures { λ r. ⌜ r ≡ sensorColumns (now (fields .entry)) ⌝ }
-{
-    SensorColumns {
-        mask: field(fields, 1),
-        enabled: field(fields, 2),
-        on_threshold: field(fields, 3),
-        on_fraction: field(fields, 4),
-        on_timeout: field(fields, 5),
-        off_threshold: field(fields, 6),
-        off_fraction: field(fields, 7),
-        off_timeout: field(fields, 8),
-    }
-}
-
-fn band_columns(fields: &[u64]) -> BandColumns
-    ensures { λ r. ⌜ r ≡ bandColumns (now (fields .entry)) ⌝ }
-{
-    BandColumns {
-        mask: field(fields, 1),
-        read_lock_enabled: field(fields, 2),
-        write_lock_enabled: field(fields, 3),
-        read_locked: field(fields, 4),
-        write_locked: field(fields, 5),
-        lock_on_reset: field(fields, 6),
-    }
-}
-
-// The event of a kind: 1 to 6, or else a transfer.
-fn kind_of(kind: u64, fields: &[u64]) -> Kind
-    ensures { λ r. ⌜ r ≡ kindOf kind (now (fields .entry)) ⌝ }
-{
-    let first = field(fields, 0);
-    let second = field(fields, 1);
-    let third = field(fields, 2);
-    if kind == 1 {
-        return Kind::Reading {
-            sensor: first,
-            value: second,
-        };
-    }
-    if kind == 2 {
-        return Kind::Elapse { ticks: first };
-    }
-    if kind == 3 {
-        return Kind::Reset { reset_type: first };
-    }
-    if kind == 4 {
-        let columns = sensor_columns(fields);
-        return Kind::SensorSet {
-            sensor: first,
-            columns,
-        };
-    }
-    if kind == 5 {
-        let columns = band_columns(fields);
-        return Kind::BandSet {
-            band: first,
-            columns,
-        };
-    }
-    if kind == 6 {
-        return Kind::Geometry {
-            band: first,
-            start: second,
-            length: third,
-        };
-    }
-    Kind::Transfer {
-        direction: first,
-        start: second,
-        count: third,
-    }
 }
 
 // The number that an event gets whatever the script is, 0 where there is none.
@@ -332,7 +234,7 @@ pub extern "C" fn drive_event(
     if LAST_KIND < kind {
         return OUT_OF_RANGE;
     }
-    let event = kind_of(kind, fields);
+    let event = event_form::kind_of(kind, fields);
     event_by(script, event, tokens, stops, place)
 }
 
@@ -390,5 +292,66 @@ pub extern "C" fn discovery_read(
     *locking = one_if(features.locking);
     *ranges = one_if(features.ranges);
     *flags = features.flags;
+    number
+}
+
+// A script from the output's start, and its length: the header, and the events of which fields and tokens are the flat form. In fields each event has
+// its kind and then every field, a Set a value for each column, named or not, and a band Set the number of its expression's bytes; these go, one
+// expression after the other, into tokens.
+#[no_mangle]
+pub extern "C" fn script_write(
+    capacity: u64,
+    bands: u64,
+    sensors: u64,
+    fields: &[u64],
+    tokens: &[u8],
+    out: &mut [u8],
+    length: &mut usize,
+) -> u8
+    ensures { λ r. ⌜ told r (now (length .exit)) (now (out .exit)) ≡ leaving (now (length .entry)) (scriptTold capacity bands sensors (eventsOf (now (fields .entry)) (now (tokens .entry))) (now (out .entry))) ⌝ }
+    ensures back { λ r. ⌜ ScriptReadsTo capacity bands sensors (eventsOf (now (fields .entry)) (now (tokens .entry))) r (now (length .exit)) (now (out .exit)) ⌝ }
+{
+    let written = script_writer::write(capacity, bands, sensors, fields, tokens, out);
+    let answer = written.answer;
+    let number = answer.number();
+    if number != 0 {
+        return number;
+    }
+    *length = written.count;
+    number
+}
+
+// The header of a script, and the flat form of its events from the start of fields and tokens, with how many numbers and bytes it has; or the place of
+// a bad script.
+#[no_mangle]
+pub extern "C" fn script_read(
+    script: &[u8],
+    fields: &mut [u64],
+    tokens: &mut [u8],
+    place: &mut usize,
+    capacity: &mut u64,
+    bands: &mut u64,
+    sensors: &mut u64,
+    field_count: &mut usize,
+    token_count: &mut usize,
+) -> u8
+    ensures { λ r. ⌜ readTo r (now (place .exit)) (now (capacity .exit)) (now (bands .exit)) (now (sensors .exit)) (now («field_count» .exit)) (now («token_count» .exit)) (now (fields .exit)) (now (tokens .exit)) ≡ readLeaving (now (place .entry)) (now (capacity .entry)) (now (bands .entry)) (now (sensors .entry)) (now («field_count» .entry)) (now («token_count» .entry)) (flatTold (readScript (now (script .entry))) (now (fields .entry)) (now (tokens .entry))) ⌝ }
+    ensures again { λ r. ⌜ ScriptComesOut (now (script .entry)) r (now (capacity .exit)) (now (bands .exit)) (now (sensors .exit)) (now («field_count» .exit)) (now («token_count» .exit)) (now (fields .exit)) (now (tokens .exit)) ⌝ }
+{
+    let read = script_reader::read(script, fields, tokens);
+    let answer = read.answer;
+    let number = answer.number();
+    if number == BAD_SCRIPT {
+        *place = read.place;
+        return number;
+    }
+    if number != 0 {
+        return number;
+    }
+    *capacity = read.capacity;
+    *bands = read.bands;
+    *sensors = read.sensors;
+    *field_count = read.field_count;
+    *token_count = read.token_count;
     number
 }

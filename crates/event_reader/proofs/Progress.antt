@@ -1,11 +1,12 @@
 -- An event ends at least two bytes after the place at which it starts, and within the script; its tokens are the bytes that it says.
-use mathlib.Core.Path.{_≡_, refl, subst, _∙_}
+use mathlib.Core.Path.{_≡_, refl, sym, ap, subst, _∙_}
 use Prim.Native.Nat.{ℕ, _+_, _-_, _≤_, _<_}
 use native.Mathlib.Omega.{arith}
 use mathlib.Core.List.{List, [], _∷_}
 use mathlib.Core.Bool.{Bool, true, false, cond}
 use lib.Dec.{eqb, leb, ltb}
-use lib.ListN.{length}
+use lib.ListN.{length, take, drop, length-drop}
+use lib.Seq.{length-take-le}
 use borrow.Author.Tests.{leb-true, le-leb}
 use Rattle.base.specs.Columns.{named}
 use Rattle.base.proofs.Cases.{cond-both, cond-true}
@@ -54,7 +55,7 @@ use Rattle.event_reader.proofs.Chains.{threeAt}
 -- ---- what was found ends between a place and the script's end
 
 abbrev StretchIn : List ℕ → ℕ → Stretch → Type 0
-StretchIn s a (stretch answer start count n) = (a ≤ n) × (n ≤ length s)
+StretchIn s a (stretch answer start count n) = (a ≤ n) × (n ≤ length s) × (length (tokensAt s start count) ≡ count)
 StretchIn s a (cut answer) = Unit {0}
 
 abbrev FiveIn : List ℕ → ℕ → Five → Type 0
@@ -66,11 +67,11 @@ abbrev pub tokensOf : Event → List ℕ
 tokensOf e = ifSetting (shapeOf e) (λ b c tokens. tokens) []
 
 abbrev EventIn : List ℕ → ℕ → Parsed → Type 0
-EventIn s a (event answer e start count n) = (a ≤ n) × (n ≤ length s) × (tokensOf e ≡ tokensAt s start count)
+EventIn s a (event answer e start count n) = (a ≤ n) × (n ≤ length s) × (tokensOf e ≡ tokensAt s start count) × (length (tokensAt s start count) ≡ count)
 EventIn s a (broken answer) = Unit {0}
 
 event-later : (s : List ℕ) (a b : ℕ) (p : Parsed) → a ≤ b → EventIn s b p → EventIn s a p
-event-later s a b (event answer e start count n) h k = (omega (arith, h, k .0), k .1, k .2)
+event-later s a b (event answer e start count n) h k = (omega (arith, h, k .0), k .1, k .2, k .3)
 event-later s a b (broken answer) h k = tt
 
 five-later : (s : List ℕ) (a b : ℕ) (p : Five) → a ≤ b → FiveIn s b p → FiveIn s a p
@@ -87,22 +88,33 @@ on-field : (s : List ℕ) (a : ℕ) (f : Found) (k : ℕ → ℕ → Parsed) →
 on-field s a (found answer v n) k h c = event-later s a n (k v n) (h .0) (c v n (h .1))
 on-field s a (none answer) k h c = tt
 
+-- no bytes
+no-tokens : (s : List ℕ) → [] ≡ tokensAt s 0 0
+no-tokens s = cond-true (leb 0 (length s)) _ _ _ (le-leb 0 (length s) (omega arith)) (cond-true (leb 0 (length s - 0)) _ _ _ (le-leb 0 (length s - 0) (omega arith)) refl)
+
+-- as many bytes as the event says
+tokens-long : (s : List ℕ) (start count : ℕ) → start ≤ length s → count ≤ length s - start → length (tokensAt s start count) ≡ count
+tokens-long s start count h k =
+    let e : tokensAt s start count ≡ take count (drop start s) =
+    sym (cond-true (leb start (length s)) _ _ _ (le-leb start (length s) h) (cond-true (leb count (length s - start)) _ _ _ (le-leb count (length s - start) k) refl)) in
+    rw e (length-take-le count (drop start s) (omega (arith, k, length-drop start s)))
+
 stretch-at : (s : List ℕ) (at : ℕ) (f : Found) → NumberIn at (length s) f → StretchIn s at (stretchAt s f)
 stretch-at s at (found answer size n) h =
     cond-both (StretchIn s at) (leb size mostTokenBytes) _ (cut badScript) (go (leb size (length s - n)) refl) tt
   where
     go : (t : Bool) → leb size (length s - n) ≡ t → StretchIn s at (cond t (stretch done n size (n + size)) (cut badScript))
-    go true p = (omega (arith, h .0), omega (arith, h .1, leb-true size (length s - n) p))
+    go true p = let l = leb-true size (length s - n) p in (omega (arith, h .0), omega (arith, h .1, l), tokens-long s n size (h .1) l)
     go false p = tt
 stretch-at s at (none answer) h = tt
 
 expression-at : (s : List ℕ) (at mask : ℕ) → at ≤ length s → StretchIn s at (expressionAt s at mask)
 expression-at s at mask h =
-    cond-both (StretchIn s at) (named 32 mask) (stretchAt s (numberAt s at)) (stretch done 0 0 at) (stretch-at s at (numberAt s at) (number-here s at)) (omega arith, h)
+    cond-both (StretchIn s at) (named 32 mask) (stretchAt s (numberAt s at)) (stretch done 0 0 at) (stretch-at s at (numberAt s at) (number-here s at)) (omega arith, h, ap length (sym (no-tokens s)))
 
 on-tokens : (s : List ℕ) (a : ℕ) (f : Stretch) (k : List ℕ → ℕ → ℕ → ℕ → Parsed) → StretchIn s a f
-    → ((start count n : ℕ) → n ≤ length s → EventIn s n (k (tokensAt s start count) start count n)) → EventIn s a (fieldTokens s f k)
-on-tokens s a (stretch answer start count n) k h c = event-later s a n (k (tokensAt s start count) start count n) (h .0) (c start count n (h .1))
+    → ((start count n : ℕ) → n ≤ length s → length (tokensAt s start count) ≡ count → EventIn s n (k (tokensAt s start count) start count n)) → EventIn s a (fieldTokens s f k)
+on-tokens s a (stretch answer start count n) k h c = event-later s a n (k (tokensAt s start count) start count n) (h .0) (c start count n (h .1) (h .2))
 on-tokens s a (cut answer) k h c = tt
 
 -- the first field is a number; so may the next be, or a column
@@ -118,13 +130,9 @@ on-column s at mask bit h k c = on-field s at (columnAt s at mask bit) k (column
 
 -- ---- the seven kinds
 
--- no bytes
-no-tokens : (s : List ℕ) → [] ≡ tokensAt s 0 0
-no-tokens s = cond-true (leb 0 (length s)) _ _ _ (le-leb 0 (length s) (omega arith)) (cond-true (leb 0 (length s - 0)) _ _ _ (le-leb 0 (length s - 0) (omega arith)) refl)
-
 -- the last field of an event that has no expression
 last : (s : List ℕ) (n : ℕ) → n ≤ length s → (e : Event) → tokensOf e ≡ [] → EventIn s n (plain e n)
-last s n h e q = (omega arith, h, q ∙ no-tokens s)
+last s n h e q = (omega arith, h, q ∙ no-tokens s, ap length (sym (no-tokens s)))
 
 from-reading : (s : List ℕ) (at : ℕ) → EventIn s (at + 1) (readingAt s at)
 unfolding readingAt
@@ -180,13 +188,13 @@ from-sensor-set : (s : List ℕ) (at : ℕ) → EventIn s (at + 1) (sensorSetAt 
 unfolding sensorSetAt
 from-sensor-set s at =
     on-set s at sensorMasks _ (λ _ m b hb. on-five s b (firstColumnsAt s b m) (five-in s b m hb) _ (λ _ _ _ _ _ g hg.
-    on-column s g m 32 hg _ (λ _ h hh. on-column s h m 64 hh _ (λ _ i hi. (omega arith, hi, no-tokens s)))))
+    on-column s g m 32 hg _ (λ _ h hh. on-column s h m 64 hh _ (λ _ i hi. (omega arith, hi, no-tokens s, ap length (sym (no-tokens s)))))))
 
 from-band-set : (s : List ℕ) (at : ℕ) → EventIn s (at + 1) (bandSetAt s at)
 unfolding bandSetAt
 from-band-set s at =
     on-set s at bandMasks _ (λ _ m b hb. on-five s b (firstColumnsAt s b m) (five-in s b m hb) _ (λ _ _ _ _ _ g hg.
-    on-tokens s g (expressionAt s g m) _ (expression-at s g m hg) (λ start count h hh. (omega arith, hh, refl))))
+    on-tokens s g (expressionAt s g m) _ (expression-at s g m hg) (λ start count h hh l. (omega arith, hh, refl, l))))
 
 -- the fields of each kind, and so those of the kind that has a number
 abbrev AllIn : List ℕ → ℕ → List KindAt → Type 0
@@ -221,3 +229,8 @@ event-past s at answer e start count n q = omega (arith, event-within s at answe
 pub event-tokens : (s : List ℕ) (at answer : ℕ) (e : Event) (start count n : ℕ) → eventAt s at ≡ event answer e start count n
     → tokensOf e ≡ tokensAt s start count
 event-tokens s at answer e start count n q = subst (EventIn s (at + 2)) q (event-from s at) .2
+
+-- and as many as it says
+pub event-count : (s : List ℕ) (at answer : ℕ) (e : Event) (start count n : ℕ) → eventAt s at ≡ event answer e start count n
+    → length (tokensAt s start count) ≡ count
+event-count s at answer e start count n q = subst (EventIn s (at + 2)) q (event-from s at) .3

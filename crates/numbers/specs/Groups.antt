@@ -1,14 +1,15 @@
 -- Document 01, 'Script': "Every number is in groups of seven bits, low group first, top bit set when more follow. Shortest form only, below
 -- 2^64."
 use mathlib.Core.Path.{_≡_}
-use Prim.Native.Nat.{ℕ, zero, suc, _+_, _*_, _/_, _%_, _<_}
+use Prim.Native.Nat.{ℕ, zero, suc, _+_, _-_, _*_, _/_, _%_, _<_}
 use mathlib.Core.Bool.{cond}
 use mathlib.Core.List.{List, [], _∷_, _++_}
 use lib.Dec.{eqb, ltb}
-use lib.ListN.{length, drop}
+use lib.ListN.{length, take, drop, replicate}
 use Rattle.base.specs.Lists.{Bytes}
 use Rattle.numbers.specs.declared.Number.{Number}
 use Rattle.numbers.specs.declared.Number.the-variants.{Is, Bad}
+use Rattle.numbers.specs.declared.ShortForm.{ShortForm}
 
 -- The answers of every reading, by the table: "0 done", and "10 bad script: the script cannot be read".
 
@@ -58,6 +59,10 @@ unfoldable pub groupsOf : ℕ → ℕ → List ℕ
 groupsOf zero v = []
 groupsOf (suc k) v = cond (ltb v 128) (v ∷ []) ((v % 128 + 128) ∷ groupsOf k (v / 128))
 
+-- the bytes of a number: ten groups hold every number below 2^64 (`OneForm`)
+abbrev pub numberBytes : ℕ → List ℕ
+numberBytes v = groupsOf 10 v
+
 -- the bytes start with the groups of a number, at most so many, and the place after them is after them all
 abbrev pub Starts : ℕ → ℕ → List ℕ → ℕ → ℕ → Type 0
 Starts k at s v n = (rest : List ℕ) × (s ≡ groupsOf k v ++ rest) × (n ≡ at + length (groupsOf k v))
@@ -74,3 +79,12 @@ pub record OneForm : Type 0 where
   pub within : (at : ℕ) (s : List ℕ) (answer v n : ℕ) → numberFrom at s ≡ found answer v n → (v < tooGreat) × (answer ≡ done)
   -- what does not read is bad script
   pub refused : (at : ℕ) (s : List ℕ) (answer : ℕ) → numberFrom at s ≡ none answer → answer ≡ badScript
+
+-- The writer's ten bytes: those of the number from the start, and 0 after them.
+pub record Writes (v : ℕ) (r : ShortForm) : Type 0 where
+  pub count : r .count ≡ length (numberBytes v)
+  pub bytes : r .bytes ≡ numberBytes v ++ replicate (10 - length (numberBytes v)) 0
+
+-- "Reading what it wrote gives the same": so many of them read to the number, to their end
+abbrev pub ReadsBack : ℕ → ShortForm → Type 0
+ReadsBack v r = numberAt (take (r .count) (r .bytes)) 0 ≡ found done v (r .count)

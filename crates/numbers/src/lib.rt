@@ -1,7 +1,7 @@
-// The numbers of a script (document 01, 'Script'): groups of seven bits, low group first, in shortest form, below 2^64.
+// The numbers of a script (document 01, 'Script'; document 02, #106): groups of seven bits, low group first, in shortest form, below 2^64.
 ghost use mathlib.Core.Path.{_≡_};
 ghost use lib.ListN.{drop};
-ghost use Rattle.numbers.specs.Groups.{foundIn, prefixed, numberAt};
+ghost use Rattle.numbers.specs.Groups.{foundIn, prefixed, numberAt, Writes, ReadsBack};
 ghost use Rattle.numbers.specs.Parts.{groupsFrom};
 
 // What stands at a place of a script.
@@ -74,4 +74,30 @@ pub fn number_at(bytes: &[u8], at: usize) -> Number
         }
     }
     groups_at(bytes, at, 10)
+}
+
+// A number in shortest form: so many bytes from the start, and 0 after them.
+pub struct ShortForm {
+    pub bytes: [u8; 10],
+    pub count: usize,
+}
+
+// The groups of a number, low group first, the top bit set when more follow.
+pub fn write(value: u64) -> ShortForm
+    ensures { λ r. ⌜ Writes value r ⌝ }
+    ensures back { λ r. ⌜ ReadsBack value r ⌝ }
+{
+    let mut bytes = [0; 10];
+    let mut count = 0;
+    let mut left = value;
+    while 128 <= left {
+        bytes[count] = (left % 128 + 128) as u8;
+        count += 1;
+        left /= 128;
+    }
+    bytes[count] = left as u8;
+    ShortForm {
+        bytes,
+        count: count + 1,
+    }
 }

@@ -37,6 +37,31 @@ pub fn put(out: &mut [u8], at: usize, bytes: &[u8])
     copy(out, at, bytes);
 }
 
+// The same of numbers.
+fn copy_numbers(out: &mut [u64], at: usize, numbers: &[u64])
+    requires { ⌜ at + length (now numbers) ≤ length (now out) ⌝ }
+    ensures { λ _. ⌜ now (out .exit) ≡ spliced (now (out .entry)) at (now (numbers .entry)) ⌝ }
+{
+    let mut i = 0;
+    while i < numbers.len() {
+        out[at + i] = numbers[i];
+        i += 1;
+    }
+}
+
+// Copies numbers into the output from place `at` on where they fit, and else leaves it.
+pub fn put_numbers(out: &mut [u64], at: usize, numbers: &[u64])
+    ensures { λ _. ⌜ now (out .exit) ≡ splicedWithin (now (out .entry)) at (now (numbers .entry)) ⌝ }
+{
+    if out.len() < numbers.len() {
+        return;
+    }
+    if out.len() - numbers.len() < at {
+        return;
+    }
+    copy_numbers(out, at, numbers);
+}
+
 // Writes bytes from the output's start. An output that is too short is left as it was.
 pub fn fill(bytes: &[u8], out: &mut [u8]) -> Written
     ensures { λ r. ⌜ toldIn r (now (out .exit)) ≡ filledBy (now (bytes .entry)) (now (out .entry)) ⌝ }

@@ -1,7 +1,7 @@
-use Rattle.api.proofs.Telling.{past-end}
+use Rattle.event_form.proofs.Numbers.{past-end}
 use borrow.Author.Needs.{needs}
-use Rattle.api.proofs.field.Statement.{statement}
-use Rattle.api.proofs.field.Tie as tie
+use Rattle.event_form.proofs.field.Statement.{statement}
+use Rattle.event_form.proofs.field.Tie as tie
 
 mul-result : tie.Need-mul-result
 mul-result c = search needs

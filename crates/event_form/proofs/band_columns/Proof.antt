@@ -1,7 +1,7 @@
-use Rattle.api.proofs.Telling.{band-columns-are}
+use Rattle.event_form.proofs.ByKind.{band-columns-are}
 use borrow.Author.Needs.{needs}
-use Rattle.api.proofs.band_columns.Statement.{statement}
-use Rattle.api.proofs.band_columns.Tie as tie
+use Rattle.event_form.proofs.band_columns.Statement.{statement}
+use Rattle.event_form.proofs.band_columns.Tie as tie
 
 field-requires : tie.Need-field-requires
 field-requires c κs = search needs

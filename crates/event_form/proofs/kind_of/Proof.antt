@@ -1,7 +1,7 @@
-use Rattle.api.proofs.Telling.{reading-of, elapse-of, reset-of, sensor-set-of, band-set-of, geometry-of, transfer-of}
+use Rattle.event_form.proofs.ByKind.{reading-of, elapse-of, reset-of, sensor-set-of, band-set-of, geometry-of, transfer-of}
 use borrow.Author.Needs.{needs}
-use Rattle.api.proofs.kind_of.Statement.{statement}
-use Rattle.api.proofs.kind_of.Tie as tie
+use Rattle.event_form.proofs.kind_of.Statement.{statement}
+use Rattle.event_form.proofs.kind_of.Tie as tie
 
 field-requires : tie.Need-field-requires
 field-requires c κs = search needs

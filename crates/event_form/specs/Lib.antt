@@ -1,0 +1,4 @@
+pub mod Form
+pub mod Kinds
+pub mod Parts
+pub mod Flat

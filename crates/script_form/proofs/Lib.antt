@@ -1,0 +1,3 @@
+pub mod Stands
+pub mod Events
+pub mod Whole

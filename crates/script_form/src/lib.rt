@@ -1,0 +1,1 @@
+// Theorems about scripts, written and read. There is no code here.

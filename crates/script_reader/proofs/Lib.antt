@@ -1,0 +1,3 @@
+pub mod Flattening
+pub mod Whole
+pub mod RoundTrips
