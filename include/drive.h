@@ -10,9 +10,10 @@
  * from the stack, less than a megabyte of it (this is measured and not proved).
  *
  * Every function returns an answer of document 01's table, or one that a request adds to it. Where several apply, the lowest number is given,
- * but of 3 and 4 the one that is met first from the left, and 13 right after these. A refusal, that is any answer but 0, leaves every buffer and every number behind a pointer as it was, with two
- * exceptions, which document 01 makes: answer 10 writes the place (to `*place`, or to `*length` where discovery_write gives it), and
- * drive_fresh writes the drive that it hands back.
+ * but of 3 and 4 the one that is met first from the left, and 13 right after these. A refusal, that is any answer but 0, leaves every buffer and
+ * every number behind a pointer as it was, with two exceptions, which document 01 makes: answer 10 writes the place (to `*place`, or to
+ * `*length` where discovery_write gives it) and nothing else, and drive_fresh writes the drive that it hands back. Answer 0 writes what the
+ * function's comment says, of each buffer so many elements from its start and none behind them, and never a place.
  */
 #ifndef DRIVE_H
 #define DRIVE_H
@@ -42,7 +43,7 @@ enum drive_answer {
     DRIVE_MALFORMED = 13     /* a Set's expression is not empty, and an operator runs short or not exactly one value is left */
 };
 
-/* The kinds of events, for drive_event. */
+/* The kinds of events, for drive_event and the flat form. */
 enum drive_kind {
     DRIVE_READING = 1,
     DRIVE_ELAPSE = 2,
@@ -82,6 +83,13 @@ enum drive_flag {
 
 /* No expression has more elements: an output of so many numbers is never too short for the elements that bytes are read to. */
 #define DRIVE_MOST_ELEMENTS 32
+
+/* No script has more bytes: an output of so many bytes is never too short for a script that is written. */
+#define DRIVE_MOST_SCRIPT 65536
+
+/* Outputs of so many numbers and of so many bytes are never too short for the flat form that a script is read to. */
+#define DRIVE_ENOUGH_FIELDS 218443
+#define DRIVE_ENOUGH_TOKENS 65533
 
 /* Every discovery answer that is written has so many bytes. */
 #define DRIVE_DISCOVERY_BYTES 80
@@ -181,6 +189,50 @@ uint8_t discovery_write(const uint8_t *script, size_t script_len, uint8_t *out, 
  * inside the header, or a descriptor runs past the end, and then it writes nothing.
  */
 uint8_t discovery_read(const uint8_t *bytes, size_t bytes_len, uint8_t *locking, uint8_t *ranges, uint8_t *flags);
+
+/*
+ * The flat form of a script's events, for script_write and script_read, is two buffers. `fields` has the numbers of all events, one event after
+ * the other, and each event always has as many as its line here says, its kind first:
+ *
+ *     DRIVE_READING, sensor, value in thousandths                                                                                  (3 numbers)
+ *     DRIVE_ELAPSE, ticks                                                                                                          (2)
+ *     DRIVE_RESET, type                                                                                                            (2)
+ *     DRIVE_SENSOR_SET, sensor, mask, enabled, on-threshold, on-fraction, on-timeout, off-threshold, off-fraction, off-timeout     (10)
+ *     DRIVE_BAND_SET, band, mask, ReadLockEnabled, WriteLockEnabled, ReadLocked, WriteLocked, LockOnReset, number of token bytes   (9)
+ *     DRIVE_GEOMETRY, band, start, length                                                                                          (4)
+ *     DRIVE_TRANSFER, 0 for a read or 1 for a write, start, count                                                                  (4)
+ *
+ * `tokens` has the bytes of the expressions of all band Sets, one after the other; which bytes belong to which Set is told by the Sets' last
+ * numbers. A mask is the sum of the bits of the columns that the Set names: 1, 2, 4, 8, 16, 32 and 64 from enabled to off-timeout; 1, 2, 4, 8 and
+ * 16 from ReadLockEnabled to LockOnReset, and 32 for the expression. Every column has its number in the flat form, and it is 0 where the mask
+ * does not name the column; so is the number of token bytes where it does not name the expression. For example, a Set on sensor 0 of enabled to
+ * 1 and off-timeout to 3 is 4, 0, 65, 1, 0, 0, 0, 0, 0, 3.
+ */
+
+/*
+ * script_write writes the script of a header and of events in the flat form from the start of `out`, which has room for `out_len` bytes, and its
+ * number of bytes to `*length`. What it writes is read by script_read as the same header and events.
+ *
+ * It answers DRIVE_DONE; DRIVE_OUT_OF_RANGE where no script holds them, that is where the capacity is not 1 to 2^48, the bands are not 1 to 16
+ * or the sensors more than 16; where a kind is none of the seven, the numbers end within an event, or there are fewer bytes in `tokens` than the
+ * band Sets count, or more; where a mask has a bit that is no column's, the number of a column is not 0 or token bytes are counted that the mask
+ * does not name, or an expression has more than 1,024 bytes; or where the script would have more than DRIVE_MOST_SCRIPT bytes; and after that
+ * DRIVE_SHORT_BUFFER where the script does not fit. With all but the first it writes nothing. What the drive would refuse is written: a row that
+ * is not there, a value beyond its column, tokens that are broken.
+ */
+uint8_t script_write(uint64_t capacity, uint64_t bands, uint64_t sensors, const uint64_t *fields, size_t fields_len, const uint8_t *tokens,
+                     size_t tokens_len, uint8_t *out, size_t out_len, size_t *length);
+
+/*
+ * script_read reads a script: it writes its header to `*capacity`, `*bands` and `*sensors`, and its events in the flat form from the start of
+ * `fields`, which has room for `fields_len` numbers, and of `tokens`, which has room for `tokens_len` bytes, and how many numbers and bytes there
+ * are to `*field_count` and `*token_count`. script_write writes the same script from them, byte by byte.
+ *
+ * It answers DRIVE_DONE, and leaves `*place`; DRIVE_BAD_SCRIPT where any part of the script is bad, and then it writes the place, as drive_run
+ * gives it, to `*place` and nothing else; or DRIVE_SHORT_BUFFER where `fields` or `tokens` has too little room, and then it writes nothing.
+ */
+uint8_t script_read(const uint8_t *script, size_t script_len, uint64_t *fields, size_t fields_len, uint8_t *tokens, size_t tokens_len,
+                    size_t *place, uint64_t *capacity, uint64_t *bands, uint64_t *sensors, size_t *field_count, size_t *token_count);
 
 #ifdef __cplusplus
 }

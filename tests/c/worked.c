@@ -57,6 +57,20 @@ static int kept(const uint8_t *bytes, size_t n)
 /* The operator AND and nothing else. */
 static const uint8_t AND_ALONE[] = {0xf0, 0xf2, 0xa4, 0x00, 0x00, 0x04, 0x0e, 0x00, 0xf3, 0xf1};
 
+/* The script's events in the flat form. Its tokens are the expression's, in the script itself. */
+static const uint64_t FIELDS[] = {
+    DRIVE_SENSOR_SET, 0, 1 + 2 + 8 + 16, 1, 5, 0, 3, 5, 0, 0,
+    DRIVE_BAND_SET, 1, 1 + 32, 1, 0, 0, 0, 0, TOKENS,
+    DRIVE_GEOMETRY, 1, 100, 50,
+    DRIVE_READING, 0, 5000,
+    DRIVE_ELAPSE, 5,
+    DRIVE_TRANSFER, 0, 99, 2,
+    DRIVE_TRANSFER, 1, 99, 2,
+    DRIVE_BAND_SET, 1, 4, 0, 0, 0, 0, 0, 0
+};
+
+enum { FIELD_COUNT = sizeof FIELDS / sizeof FIELDS[0] };
+
 static void listing(void)
 {
     uint8_t out[256];
@@ -215,6 +229,123 @@ static void discovery(void)
     expect(locking == 0 && ranges == 1 && flags == 0, "and its Locking feature is passed over");
 }
 
+/* A call of script_write that is refused with 2, and with 2 before 11 too, and leaves its output and its length. */
+static void unwritten(uint64_t capacity, uint64_t bands, uint64_t sensors, const uint64_t *fields, size_t count, const uint8_t *bytes, size_t size,
+                      const char *what)
+{
+    static uint8_t out[DRIVE_MOST_SCRIPT + 8];
+    size_t length = BEFORE;
+    memset(out, BYTE, sizeof out);
+    expect(script_write(capacity, bands, sensors, fields, count, bytes, size, out, sizeof out, &length) == DRIVE_OUT_OF_RANGE, what);
+    expect(script_write(capacity, bands, sensors, fields, count, bytes, size, out, 0, &length) == DRIVE_OUT_OF_RANGE, what);
+    expect(length == BEFORE && kept(out, sizeof out), "what no script holds writes nothing");
+}
+
+static void unwritten_scripts(void)
+{
+    const uint64_t kind[] = {8, 0, 0}, sensor_mask[] = {DRIVE_SENSOR_SET, 0, 128, 0, 0, 0, 0, 0, 0, 0};
+    const uint64_t band_mask[] = {DRIVE_BAND_SET, 0, 64, 0, 0, 0, 0, 0, 0};
+    const uint64_t sensor_value[] = {DRIVE_SENSOR_SET, 0, 1, 1, 0, 0, 0, 0, 0, 7};
+    const uint64_t band_value[] = {DRIVE_BAND_SET, 0, 1, 1, 1, 0, 0, 0, 0};
+    const uint64_t no_expression[] = {DRIVE_BAND_SET, 0, 31, 0, 0, 0, 0, 0, 1};
+    const uint64_t long_expression[] = {DRIVE_BAND_SET, 0, 32, 0, 0, 0, 0, 0, 1025};
+    const uint8_t *tokens = SCRIPT + TOKENS_AT;
+    static uint64_t elapses[2 * 32766];
+    static uint8_t bytes[1025], out[DRIVE_MOST_SCRIPT];
+    size_t length, i;
+    unwritten(0, 2, 1, FIELDS, FIELD_COUNT, tokens, TOKENS, "no block gets 2");
+    unwritten((UINT64_C(1) << 48) + 1, 2, 1, FIELDS, FIELD_COUNT, tokens, TOKENS, "a block above 2^48 gets 2");
+    unwritten(1000, 0, 1, FIELDS, FIELD_COUNT, tokens, TOKENS, "no band gets 2");
+    unwritten(1000, 17, 1, FIELDS, FIELD_COUNT, tokens, TOKENS, "17 bands of a script get 2");
+    unwritten(1000, 2, 17, FIELDS, FIELD_COUNT, tokens, TOKENS, "17 sensors of a script get 2");
+    unwritten(1000, 2, 1, kind, 3, tokens, 0, "no script holds an event of kind 8");
+    unwritten(1000, 2, 1, FIELDS, FIELD_COUNT - 1, tokens, TOKENS, "an event without its last number gets 2");
+    unwritten(1000, 2, 1, FIELDS, FIELD_COUNT, tokens, TOKENS - 1, "a token byte too few gets 2");
+    unwritten(1000, 2, 1, FIELDS, FIELD_COUNT, tokens, TOKENS + 1, "a token byte too many gets 2");
+    unwritten(1000, 2, 1, sensor_mask, 10, tokens, 0, "no sensor has a column of bit 128");
+    unwritten(1000, 2, 1, band_mask, 9, tokens, 0, "no band has a column of bit 64");
+    unwritten(1000, 2, 1, sensor_value, 10, tokens, 0, "an off-timeout that is not named gets 2");
+    unwritten(1000, 2, 1, band_value, 9, tokens, 0, "a WriteLockEnabled that is not named gets 2");
+    unwritten(1000, 2, 1, no_expression, 9, tokens, 1, "an expression that is not named gets 2");
+    unwritten(1000, 2, 1, long_expression, 9, bytes, 1025, "1,025 token bytes get 2");
+    for (i = 0; i < 32766; i++) {
+        elapses[2 * i] = DRIVE_ELAPSE;
+    }
+    expect(script_write(1000, 2, 1, elapses, 2 * 32766, tokens, 0, out, sizeof out, &length) == DRIVE_DONE, "32,766 elapses are written");
+    expect(length == DRIVE_MOST_SCRIPT, "and their script is of the greatest length");
+    elapses[1] = 128;
+    unwritten(1000, 2, 1, elapses, 2 * 32766, tokens, 0, "a script of 65,537 bytes gets 2");
+}
+
+static void written_script(void)
+{
+    const uint64_t refused[] = {DRIVE_RESET, 9, DRIVE_BAND_SET, 99, 1 + 32, 2, 0, 0, 0, 0, 1};
+    const uint8_t refused_bytes[] = {0xE8, 0x07, 0x02, 0x01, 0x03, 0x09, 0x05, 0x63, 0x21, 0x02, 0x01, 0xF0};
+    const uint8_t *tokens = SCRIPT + TOKENS_AT;
+    uint8_t out[WHOLE + 8];
+    size_t length = BEFORE;
+    memset(out, BYTE, sizeof out);
+    expect(script_write(1000, 2, 1, FIELDS, FIELD_COUNT, tokens, TOKENS, out, WHOLE - 1, &length) == DRIVE_SHORT_BUFFER, "51 bytes are too few");
+    expect(length == BEFORE && kept(out, sizeof out), "11 leaves the output and the length of a script");
+    expect(script_write(1000, 2, 1, FIELDS, FIELD_COUNT, tokens, TOKENS, out, sizeof out, &length) == DRIVE_DONE, "the script is written");
+    expect(length == WHOLE && memcmp(out, SCRIPT, WHOLE) == 0, "byte by byte as document 01 has it");
+    expect(kept(out + WHOLE, sizeof out - WHOLE), "and no byte more than the script");
+    expect(script_write(1000, 2, 1, refused, 11, tokens, 1, out, sizeof out, &length) == DRIVE_DONE, "what the drive refuses is written");
+    expect(length == sizeof refused_bytes && memcmp(out, refused_bytes, sizeof refused_bytes) == 0, "as it was given");
+}
+
+/* The numbers that script_read writes. */
+struct apart {
+    size_t place, field_count, token_count;
+    uint64_t capacity, bands, sensors;
+};
+
+static const struct apart UNREAD = {BEFORE, BEFORE, BEFORE, BEFORE, BEFORE, BEFORE};
+
+static uint8_t taken_apart(size_t size, uint64_t *fields, size_t fields_len, uint8_t *tokens, size_t tokens_len, struct apart *all)
+{
+    *all = UNREAD;
+    return script_read(SCRIPT, size, fields, fields_len, tokens, tokens_len, &all->place, &all->capacity, &all->bands, &all->sensors,
+                       &all->field_count, &all->token_count);
+}
+
+/* Whether all numbers but the place are as they were before a call. */
+static int unread(const struct apart *all)
+{
+    return all->field_count == BEFORE && all->token_count == BEFORE && all->capacity == BEFORE && all->bands == BEFORE && all->sensors == BEFORE;
+}
+
+static void read_script(void)
+{
+    static uint64_t most_fields[DRIVE_ENOUGH_FIELDS];
+    static uint8_t most_tokens[DRIVE_ENOUGH_TOKENS];
+    uint64_t fields[FIELD_COUNT + 1];
+    uint8_t tokens[TOKENS + 1];
+    struct apart all;
+    size_t i;
+    for (i = 0; i <= FIELD_COUNT; i++) {
+        fields[i] = BEFORE;
+    }
+    memset(tokens, BYTE, sizeof tokens);
+    expect(taken_apart(WHOLE, fields, FIELD_COUNT - 1, tokens, TOKENS, &all) == DRIVE_SHORT_BUFFER, "44 numbers are too few");
+    expect(all.place == BEFORE && unread(&all), "11 writes no number");
+    expect(taken_apart(WHOLE, fields, FIELD_COUNT, tokens, TOKENS - 1, &all) == DRIVE_SHORT_BUFFER, "13 token bytes are too few");
+    expect(all.place == BEFORE && unread(&all), "nor then");
+    expect(taken_apart(WHOLE + 1, fields, FIELD_COUNT, tokens, TOKENS, &all) == DRIVE_BAD_SCRIPT, "a bad script is not read");
+    expect(all.place == WHOLE && unread(&all), "10 writes its place alone");
+    expect(taken_apart(WHOLE + 1, fields, 0, tokens, 0, &all) == DRIVE_BAD_SCRIPT, "10 before 11 for a script that is read");
+    for (i = 0; i <= FIELD_COUNT && fields[i] == BEFORE; i++) {
+    }
+    expect(i > FIELD_COUNT && kept(tokens, sizeof tokens), "10 and 11 write no field and no token byte");
+    expect(taken_apart(WHOLE, fields, FIELD_COUNT + 1, tokens, TOKENS + 1, &all) == DRIVE_DONE, "the script is read");
+    expect(all.place == BEFORE && all.capacity == 1000 && all.bands == 2 && all.sensors == 1, "its header, and no place");
+    expect(all.field_count == FIELD_COUNT && memcmp(fields, FIELDS, sizeof FIELDS) == 0, "its events");
+    expect(all.token_count == TOKENS && memcmp(tokens, SCRIPT + TOKENS_AT, TOKENS) == 0, "and its expression");
+    expect(fields[FIELD_COUNT] == BEFORE && kept(tokens + TOKENS, 1), "and no number and no byte more");
+    expect(taken_apart(WHOLE, most_fields, DRIVE_ENOUGH_FIELDS, most_tokens, DRIVE_ENOUGH_TOKENS, &all) == DRIVE_DONE, "there is room for the most");
+    expect(all.field_count == FIELD_COUNT && all.token_count == TOKENS, "of which it takes what it needs");
+}
+
 int main(void)
 {
     listing();
@@ -224,6 +355,9 @@ int main(void)
     fresh();
     tokens();
     discovery();
+    unwritten_scripts();
+    written_script();
+    read_script();
     printf("worked.c: %d tests of document 01's worked script over include/drive.h\n", tests);
     return 0;
 }

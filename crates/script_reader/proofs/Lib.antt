@@ -1,3 +1,4 @@
 pub mod Flattening
 pub mod Whole
 pub mod RoundTrips
+pub mod Room

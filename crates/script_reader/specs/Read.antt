@@ -1,17 +1,18 @@
 -- Document 02, #106, the other way: the header of an accepted script, and the flat form of its events.
 use mathlib.Core.Path.{_≡_}
-use Prim.Native.Nat.{ℕ}
-use mathlib.Core.Bool.{Bool, cond, _||_}
+use Prim.Native.Nat.{ℕ, _≤_}
+use mathlib.Core.Bool.{Bool, false, cond, _||_}
 use mathlib.Core.List.{List}
 use lib.Dec.{ltb}
 use lib.ListN.{length, take}
+use Rattle.base.specs.Lists.{Bytes}
 use Rattle.base.specs.Spliced.{over}
 use Rattle.answer.specs.Numbers.{numberOf}
 use Rattle.numbers.specs.Groups.{done, badScript}
 use Rattle.drive.specs.Events.{Event}
 use Rattle.event_form.specs.Parts.{flat, eventsOf}
 use Rattle.event_form.specs.Flat.{allFields, allTokens}
-use Rattle.script.specs.Whole.{Script, accepted, bad}
+use Rattle.script.specs.Whole.{Script, accepted, bad, readScript}
 use Rattle.script_form.specs.Written.{scriptBytes}
 use Rattle.script_reader.specs.declared.ScriptRead.{ScriptRead}
 
@@ -38,6 +39,18 @@ flatTold (accepted capacity bands sensors es) fields tokens =
     (refusedRead 11 0 fields tokens)
     (readTo done 0 capacity bands sensors (length (allFields es)) (length (allTokens es)) (over (allFields es) fields) (over (allTokens es) tokens))
 flatTold (bad place) fields tokens = refusedRead badScript place fields tokens
+
+-- Slices of so many numbers and bytes are never too short (theorem `never-short` in proofs/Room): a sensor Set that names nothing has ten numbers in
+-- three bytes, no event has more for its bytes, and the header takes three.
+abbrev pub enoughFields : ℕ
+enoughFields = 218443
+
+abbrev pub enoughTokens : ℕ
+enoughTokens = 65533
+
+abbrev pub NeverShort : Type 0
+NeverShort = (script : List ℕ) (capacity bands sensors : ℕ) (es : List Event) → Bytes script → readScript script ≡ accepted capacity bands sensors es
+    → (fields tokens : List ℕ) → enoughFields ≤ length fields → enoughTokens ≤ length tokens → tooShort es fields tokens ≡ false
 
 -- "an accepted script comes out again byte by byte": where the answer is 0, so many numbers and bytes of the slices are the flat form of some events,
 -- and the bytes of the header and these are the script

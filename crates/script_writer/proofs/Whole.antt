@@ -12,6 +12,7 @@ use mir.Syntax.{w64}
 use mir.Val.{Fits}
 use borrow.Author.Tests.{le-leb, leb-true, not-true, not-false}
 use Rattle.base.specs.Spliced.{spliced}
+use Rattle.base.proofs.Refusals.{rising-lowest}
 use Rattle.base.proofs.Cases.{and-left, and-right}
 use Rattle.base.proofs.Spliced.{splice-twice}
 use Rattle.answer.specs.Numbers.{numberOf}
@@ -30,7 +31,7 @@ use Rattle.script_form.specs.Written.{eventsBytes, scriptBytes, allHoldable, Al
 use Rattle.script_form.proofs.Whole.{script-form}
 use Rattle.script_writer.specs.declared.EventsPut.{EventsPut}
 use Rattle.script_writer.specs.declared.EventsPut.the-variants as A
-use Rattle.script_writer.specs.Write.{writable, bytesFor, writeAnswer, scriptTold, ReadsTo, ReadsBack}
+use Rattle.script_writer.specs.Write.{writable, bytesFor, writeAnswer, writeRefusals, scriptTold, LowestWritten, ReadsTo, ReadsBack}
 use Rattle.script_writer.specs.Parts.{outOfRange, AllPut, PutsEvents}
 use Rattle.script_writer.proofs.Events.{values-most}
 
@@ -193,3 +194,9 @@ told-back capacity bands sensors fields tokens r out after k e z = go (eventsOf 
     go (flat es) q h =
         let n : fields ≡ allFields es = flat-form .no-other fields tokens es q .0 in
         reads-to capacity bands sensors r out after z es (words es (subst Words n (λ i. omega (arith, k i)))) h
+
+-- ---- 2 before 11
+
+pub lowest-written : LowestWritten
+unfolding writeAnswer
+lowest-written capacity bands sensors f room = rising-lowest 1 (writeRefusals capacity bands sensors f room) (omega arith) refl

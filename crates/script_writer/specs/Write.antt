@@ -5,7 +5,7 @@ use mathlib.Core.Bool.{Bool, false, not, _&&_}
 use mathlib.Core.List.{List, [], _∷_}
 use lib.Dec.{leb, ltb}
 use lib.ListN.{length, take}
-use Rattle.base.specs.Refusals.{Refusal, when, firstOf}
+use Rattle.base.specs.Refusals.{Refusal, when, firstOf, LowestOf}
 use Rattle.answer.specs.Numbers.{numberOf}
 use Rattle.output.specs.declared.Written.{Written}
 use Rattle.output.specs.Filling.{Told, toldBy}
@@ -36,6 +36,11 @@ writeRefusals capacity bands sensors f room =
 
 unfoldable pub writeAnswer : (capacity bands sensors : ℕ) → Flat → (room : ℕ) → ℕ
 writeAnswer capacity bands sensors f room = firstOf (writeRefusals capacity bands sensors f room)
+
+-- "The lowest number that applies is given" (theorem `lowest-written` in proofs/Whole)
+abbrev pub LowestWritten : Type 0
+LowestWritten = (capacity bands sensors : ℕ) (f : Flat) (room : ℕ)
+    → LowestOf (writeRefusals capacity bands sensors f room) (writeAnswer capacity bands sensors f room)
 
 -- answer, number of bytes written, and the output: "nothing written" where it is refused
 abbrev pub scriptTold : (capacity bands sensors : ℕ) → Flat → (out : List ℕ) → Told

@@ -1,3 +1,5 @@
+use native.Mathlib.Nat.{le-trans}
+use lib.Dec.{lit≤}
 use borrow.Author.Needs.{needs}
 use Rattle.script_reader.proofs.Whole.{bad-told, refused-again, script-overlong, script-headless, script-broken, fields-short, tokens-short, granted, all-told, told-again}
 use Rattle.script_reader.proofs.read.Statement.{statement}
@@ -7,7 +9,7 @@ refused-requires : tie.Need-refused-requires
 refused-requires c κs = search needs
 
 returns : tie.Need-returns
-returns c = (search (bad-told, script-overlong), search (refused-again, needs))
+returns c = (search (bad-told, script-overlong, le-trans, lit≤), search (refused-again, needs))
 
 header-at-requires : tie.Need-header-at-requires
 header-at-requires c κs = search needs

@@ -1,4 +1,6 @@
 use borrow.Author.Needs.{needs}
+use native.Mathlib.Nat.{le-trans}
+use lib.Dec.{lit≤}
 use Prim.Native.Nat.{_-_}
 use lib.ListN.{length}
 use Rattle.script_writer.proofs.Writing.{Writing, write-begin, write-room, write-bad, width-fits, count-fits, write-less, write-again, write-long, write-left, write-done}
@@ -54,7 +56,7 @@ same-length-2 : tie.Need-same-length-2 Inv-loop μ-loop
 same-length-2 c = search needs
 
 returns-2 : tie.Need-returns-2 Inv-loop μ-loop
-returns-2 c = search write-long
+returns-2 c = search (write-long, le-trans, lit≤)
 
 add-i : tie.Need-add-i Inv-loop μ-loop
 add-i c = search (width-fits, needs)

@@ -3,6 +3,7 @@ use crate::discovery::Written;
 use crate::resets::Resets;
 use crate::scripts::{Damage, DAMAGES};
 use crate::tokens::Broken;
+use crate::written::Scripts;
 use std::collections::{BTreeMap, BTreeSet};
 
 const PHASES: [&str; 5] = ["SS0", "ST0", "SS1", "ST1", "SS2"];
@@ -84,6 +85,7 @@ pub struct Coverage {
     damages: BTreeMap<Damage, [u64; 2]>,
     pub discovery: Written,
     pub resets: Resets,
+    pub written: Scripts,
 }
 
 impl Coverage {
@@ -183,6 +185,7 @@ impl Coverage {
         }
         self.discovery.finish();
         self.resets.finish();
+        self.written.finish();
         for (a, &n) in self.answers.iter().enumerate() {
             assert_eq!(n > 0, a <= 9 || a == 13, "answer {a} was reached {n} times");
         }

@@ -51,6 +51,32 @@ mod exported {
             ranges: *mut u8,
             flags: *mut u8,
         ) -> u8;
+        pub fn script_write(
+            capacity: u64,
+            bands: u64,
+            sensors: u64,
+            fields: *const u64,
+            fields_len: usize,
+            tokens: *const u8,
+            tokens_len: usize,
+            out: *mut u8,
+            out_len: usize,
+            length: *mut usize,
+        ) -> u8;
+        pub fn script_read(
+            script: *const u8,
+            script_len: usize,
+            fields: *mut u64,
+            fields_len: usize,
+            tokens: *mut u8,
+            tokens_len: usize,
+            place: *mut usize,
+            capacity: *mut u64,
+            bands: *mut u64,
+            sensors: *mut u64,
+            field_count: *mut usize,
+            token_count: *mut usize,
+        ) -> u8;
     }
 }
 
@@ -94,6 +120,16 @@ pub struct Seen {
     pub flags: u8,
 }
 
+/// A script that is read to its header and flat form: the place, the header and how much there is of each, or what these held before.
+#[derive(Debug, PartialEq)]
+pub struct Apart {
+    pub answer: u8,
+    pub place: usize,
+    pub header: [u64; 3],
+    pub field_count: usize,
+    pub token_count: usize,
+}
+
 impl Told {
     /// A refusal: the number is as it was.
     pub fn refused(answer: u8) -> Self {
@@ -110,6 +146,14 @@ impl Answered {
     /// A refusal, with its place where it is 10: all else is as it was.
     pub fn refused(answer: u8, place: Option<usize>) -> Self {
         Answered { answer, stops: UNWRITTEN as u64, place: place.unwrap_or(UNWRITTEN) }
+    }
+}
+
+impl Apart {
+    /// A refusal, with its place where it is 10: all else is as it was.
+    pub fn refused(answer: u8, place: Option<usize>) -> Self {
+        let place = place.unwrap_or(UNWRITTEN);
+        Apart { answer, place, header: [UNWRITTEN as u64; 3], field_count: UNWRITTEN, token_count: UNWRITTEN }
     }
 }
 
@@ -191,4 +235,47 @@ pub fn read_discovery(bytes: &[u8], before: &Seen) -> Seen {
     let answer =
         unsafe { exported::discovery_read(bytes.as_ptr(), bytes.len(), &mut locking, &mut ranges, &mut flags) };
     Seen { answer, locking, ranges, flags }
+}
+
+/// The script of a header and a flat form.
+pub fn write_script([capacity, bands, sensors]: [u64; 3], fields: &[u64], tokens: &[u8], out: &mut [u8]) -> Told {
+    let mut count = UNWRITTEN;
+    let answer = unsafe {
+        exported::script_write(
+            capacity,
+            bands,
+            sensors,
+            fields.as_ptr(),
+            fields.len(),
+            tokens.as_ptr(),
+            tokens.len(),
+            out.as_mut_ptr(),
+            out.len(),
+            &mut count,
+        )
+    };
+    Told { answer, count }
+}
+
+/// The header and the flat form of a script.
+pub fn read_script(script: &[u8], fields: &mut [u64], tokens: &mut [u8]) -> Apart {
+    let mut all = Apart::refused(0, None);
+    let [capacity, bands, sensors] = &mut all.header;
+    all.answer = unsafe {
+        exported::script_read(
+            script.as_ptr(),
+            script.len(),
+            fields.as_mut_ptr(),
+            fields.len(),
+            tokens.as_mut_ptr(),
+            tokens.len(),
+            &mut all.place,
+            capacity,
+            bands,
+            sensors,
+            &mut all.field_count,
+            &mut all.token_count,
+        )
+    };
+    all
 }

@@ -1,18 +1,21 @@
 //! The exported functions and the program against the native engine, on scripts and calls made at random, the same at every run. SCRIPTS in the
 //! environment says how many scripts, 10,000 where it is not set. What was reached is counted and printed, and a test fails where an
-//! answer, a move of a phase, a kind of damage or something to be seen in a discovery answer was not.
+//! answer, a move of a phase, a kind of damage, something to be seen in a discovery answer or a reason for which no script holds a flat form was
+//! not.
 #[cfg(no_library)]
 compile_error!("target/staticlib/libapi.a is missing: build it with `rt staticlib api`");
 
 mod answers;
 mod coverage;
 mod discovery;
+mod forms;
 mod library;
 mod program;
 mod random;
 mod resets;
 mod scripts;
 mod tokens;
+mod written;
 
 use drive_native::engine::Lister;
 use coverage::{Coverage, Found};
@@ -121,6 +124,7 @@ fn compare(r: &mut Random, lister: &mut Lister, script: &[u8], reached: &mut Cov
     assert!(program::listed(script) == expected.text, "the program on script {script:02x?}");
     compare_run(r, script, &expected, reached);
     discovery::compare_write(r, lister, script, &mut reached.discovery);
+    reached.written.compare(script, expected.bad);
     reached.listing(&expected.answers, &expected.stops, expected.bad);
     expected
 }

@@ -59,6 +59,21 @@ impl Event {
 
     /// Its fields as a direct call takes them: a Set has a value for every column, and those that its mask does not name may be anything.
     pub fn direct(&self, r: &mut Random) -> Vec<u64> {
+        self.columns(|| r.next())
+    }
+
+    /// Its numbers in the flat form (#106): its kind, its fields with 0 for a column that is not named, and how many bytes a band Set has.
+    pub fn flat(&self) -> Vec<u64> {
+        let mut numbers = vec![self.kind];
+        numbers.extend(self.columns(|| 0));
+        if self.kind == 5 {
+            numbers.push(self.tokens.as_ref().map_or(0, |tokens| tokens.len() as u64));
+        }
+        numbers
+    }
+
+    /// Its fields, with a value for every column of a Set.
+    fn columns(&self, mut unnamed: impl FnMut() -> u64) -> Vec<u64> {
         let columns = match self.kind {
             4 => 7,
             5 => 5,
@@ -68,7 +83,7 @@ impl Event {
         let mut named = self.fields[2..].iter();
         let mut fields = self.fields[..2].to_vec();
         for bit in 0..columns {
-            fields.push(if mask >> bit & 1 == 1 { *named.next().unwrap() } else { r.next() });
+            fields.push(if mask >> bit & 1 == 1 { *named.next().unwrap() } else { unnamed() });
         }
         fields
     }
