@@ -5,8 +5,8 @@ use Prim.Native.Nat.{ℕ, _-_, _<_, _≤_}
 use native.Mathlib.Omega.{arith}
 use mathlib.Core.Bool.{Bool, true, false, cond}
 use mathlib.Core.List.{List, [], _++_}
-use lib.Dec.{eqb, leb}
-use lib.ListN.{length, getD, take, replicate, length-append, length-map, length-replicate}
+use lib.Dec.{eqb}
+use lib.ListN.{length, take, replicate, length-append, length-map, length-replicate}
 use lib.Seq.{take-append-seam}
 use borrow.Author.Tests.{le-leb, lt-leb, eq-eqb, ne-eqb}
 use Rattle.base.specs.Refusals.{orderOf}
@@ -36,7 +36,7 @@ use Rattle.script.specs.Whole.{Script, accepted, bad}
 use Rattle.run.specs.declared.Ran.{Ran}
 use Rattle.run.specs.declared.LeftDrive.{LeftDrive}
 use Rattle.run.specs.Outcome.{RunOutcome, outcomeIn}
-use Rattle.run.specs.Left.{leaves, leftIn, leftBy}
+use Rattle.run.specs.Left.{leftIn, leftBy}
 use Rattle.discovery_answer.specs.declared.Features.{Features}
 use Rattle.discovery_answer.specs.declared.Shown.{Shown}
 use Rattle.discovery_answer.specs.Write.{discoveryOf}

@@ -5,7 +5,8 @@ use native.Mathlib.Numerals.{add-one}
 use native.Mathlib.Omega.{arith}
 use mathlib.Core.Bool.{Bool, true, false, cond, _||_, false≢true}
 use mathlib.Core.List.{List, [], _∷_, map}
-use lib.ListN.{length, getD, set, replicate, length-map}
+use lib.ListN.{length, getD, set, drop, replicate, length-map}
+use lib.Seq.{drop-cons}
 use Rattle.base.specs.Lists.{oneIf, count}
 
 -- f at the first i elements, and the rest as it was
@@ -117,3 +118,7 @@ pub few-counted : {A : Type 0} (f : A → Bool) (l : List A) → count f l ≤ l
 unfolding count
 few-counted f [] = omega arith
 few-counted f (x ∷ l) = omega (arith, few-counted f l, oneIf-le (f x))
+
+-- a list from a place within it on
+pub rest-from : (l : List ℕ) (i : ℕ) → i < length l → drop i l ≡ getD l i 0 ∷ drop (i + 1) l
+rest-from l i h = rw (drop-cons l i 0, add-one)

@@ -1,10 +1,10 @@
 -- Laws of an output with other bytes from a place on.
-use mathlib.Core.Path.{_≡_}
+use mathlib.Core.Path.{_≡_, sym}
 use Prim.Native.Nat.{ℕ, _+_, _≤_, _<_}
-use native.Mathlib.Nat.{add-assoc, zero-add}
+use native.Mathlib.Nat.{add-assoc, add-zero, zero-add}
 use native.Mathlib.Numerals.{add-one}
-use mathlib.Core.List.{List, [], _∷_, _++_, append-assoc}
-use lib.ListN.{length, take, drop, set, length-append}
+use mathlib.Core.List.{List, [], _∷_, _++_, append-assoc, append-nil}
+use lib.ListN.{length, take, drop, set, length-append, take-append-drop}
 use lib.Seq.{length-take-le, take-at, drop-at, drop-drop, set-split}
 use Rattle.base.specs.Spliced.{spliced, over}
 
@@ -18,6 +18,10 @@ splice-twice d at x y h =
     let t : take (at + length x) (spliced d at x) ≡ take at d ++ x = take-at (take at d ++ x) (drop (at + length x) d) (at + length x) l in
     let r : drop (at + length x) (spliced d at x) ≡ drop (at + length x) d = drop-at (take at d ++ x) (drop (at + length x) d) (at + length x) l in
     rw (t, ← drop-drop (length y) (at + length x) (spliced d at x), r, drop-drop, append-assoc (take at d) x y, length-append x y, add-assoc)
+
+-- no bytes, put anywhere
+pub splice-none : (d : List ℕ) (at : ℕ) → d ≡ spliced d at []
+splice-none d at = rw (append-nil (take at d), add-zero) (sym (take-append-drop at d))
 
 -- one store
 pub set-splice : (d : List ℕ) (at b : ℕ) → at < length d → set d at b ≡ spliced d at (b ∷ [])

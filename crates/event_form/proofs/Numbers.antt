@@ -15,7 +15,7 @@ use Rattle.drive.specs.declared.Kind.the-variants as K
 use Rattle.drive.specs.Events.{Event, eventOf, reading, elapse, reset, sensorSet, bandSet, geometry, transfer}
 use Rattle.event_form.specs.declared.EventNumbers.{EventNumbers}
 use Rattle.event_form.specs.Form.{fieldsOf}
-use Rattle.event_form.specs.Parts.{widthOf, countOf, Numbers}
+use Rattle.event_form.specs.Parts.{countOf, Numbers}
 
 pub past-end : (fields : List ℕ) (at : ℕ) → length fields ≤ at → 0 ≡ getD fields at 0
 past-end fields at h = sym (List·getD-eq-default fields 0 h)

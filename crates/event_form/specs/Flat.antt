@@ -5,7 +5,7 @@ use Prim.Native.Nat.{ℕ}
 use mathlib.Core.List.{List, [], _∷_, _++_}
 use Rattle.drive.specs.Events.{Event}
 use Rattle.event_form.specs.Form.{fieldsOf, tokensOf}
-use Rattle.event_form.specs.Parts.{Flat, flat, eventsOf}
+use Rattle.event_form.specs.Parts.{flat, eventsOf}
 
 unfoldable pub allFields : List Event → List ℕ
 allFields [] = []

@@ -1,18 +1,16 @@
 -- The loop over the events of a script, whose flat form grows in both slices.
 use mathlib.Core.Path.{_≡_, refl, sym, ap, _∙_}
-use Prim.Native.Nat.{ℕ, zero, suc, _+_, _-_, _*_, _≤_, _<_}
-use native.Mathlib.Nat.{zero-add}
+use Prim.Native.Nat.{ℕ, _+_, _-_, _*_, _≤_, _<_}
 use native.Mathlib.Omega.{arith}
-use mathlib.Core.Bool.{true}
 use mathlib.Core.List.{List, [], _∷_, _++_, append-assoc, append-nil}
-use lib.Dec.{leb, ltb}
+use lib.Dec.{leb}
 use lib.ListN.{length, take, drop, length-append, length-drop, length-take}
 use mir.Syntax.{w64}
 use mir.Val.{Fits}
 use borrow.Author.Tests.{lt-ltb, le-ltb}
 use Rattle.base.specs.Spliced.{spliced}
 use Rattle.base.proofs.Cases.{cond-both}
-use Rattle.base.proofs.Spliced.{splice-twice}
+use Rattle.base.proofs.Spliced.{splice-none, splice-twice}
 use Rattle.output.specs.Filling.{splicedWithin}
 use Rattle.output.proofs.Filled.{put-fits}
 use Rattle.numbers.specs.Groups.{done, badScript}
@@ -31,7 +29,6 @@ use Rattle.event_form.proofs.Numbers.{fields-most, numbers-first}
 use Rattle.script.specs.Events.{Events, events, badFrom, before, andThen}
 use Rattle.script.specs.Parts.{eventsFrom}
 use Rattle.script.proofs.Checking.{reads-on}
-use Rattle.script_writer.proofs.Values.{splice-none}
 use Rattle.script_reader.specs.Parts.{AllTold}
 
 -- events in front of those that are left

@@ -1,6 +1,6 @@
 -- How much room the flat form of a script takes at most.
-use mathlib.Core.Path.{_≡_, sym, ap}
-use Prim.Native.Nat.{ℕ, zero, suc, _+_, _*_, _/_, _%_, _≤_}
+use mathlib.Core.Path.{_≡_}
+use Prim.Native.Nat.{ℕ, _+_, _*_, _/_, _%_, _≤_}
 use native.Mathlib.Omega.{arith}
 use mathlib.Core.Bool.{false}
 use mathlib.Core.List.{List, [], _∷_, _++_}
@@ -14,7 +14,7 @@ use Rattle.event_form.specs.Form.{formOf, numbersBytes, valuesBytes, eventBytes
 use Rattle.event_form.specs.Flat.{allFields, allTokens}
 use Rattle.script_form.specs.Written.{eventsBytes, scriptBytes}
 use Rattle.script_form.proofs.Whole.{script-form}
-use Rattle.script_reader.specs.Read.{NeverShort, tooShort}
+use Rattle.script_reader.specs.Read.{NeverShort}
 
 -- a number takes at least one byte
 number-some : (v : ℕ) → 1 ≤ length (numberBytes v)

@@ -2,12 +2,11 @@
 use mathlib.Core.Path.{_≡_, refl, sym, ap, _∙_}
 use Prim.Native.Nat.{ℕ, _≤_}
 use native.Mathlib.Omega.{arith}
-use mathlib.Core.Bool.{Bool, true, false, cond, _||_, _&&_}
+use mathlib.Core.Bool.{true, false}
 use mathlib.Core.List.{List}
 use lib.Dec.{leb, ltb}
 use lib.ListN.{length, take}
 use borrow.Author.Tests.{le-ltb, le-leb}
-use Rattle.base.specs.Lists.{Bytes}
 use Rattle.base.specs.Spliced.{over}
 use Rattle.base.proofs.Cases.{cond-false}
 use Rattle.answer.specs.Numbers.{numberOf}
@@ -15,16 +14,14 @@ use Rattle.output.specs.declared.Written.{Written}
 use Rattle.output.specs.Filling.{told, toldIn, filledBy}
 use Rattle.output.proofs.Filled.{filled-bytes, filled-room}
 use Rattle.numbers.specs.Groups.{done}
-use Rattle.drive.specs.State.{headerFits}
 use Rattle.drive.specs.Events.{Event}
-use Rattle.event_form.specs.Form.{Words}
 use Rattle.event_form.specs.Parts.{Flat, flat, eventsOf}
 use Rattle.event_form.specs.Flat.{allFields, allTokens}
 use Rattle.event_form.proofs.Flat.{flat-form}
 use Rattle.script.specs.Whole.{mostScriptBytes, Script, accepted, readScript}
-use Rattle.script_form.specs.Written.{scriptBytes, allHoldable, Holds}
+use Rattle.script_form.specs.Written.{scriptBytes, Holds}
 use Rattle.script_form.proofs.Whole.{script-form}
-use Rattle.script_writer.specs.Write.{writable, scriptTold, ReadsTo}
+use Rattle.script_writer.specs.Write.{writable, scriptTold}
 use Rattle.script_writer.proofs.Whole.{told-back, able-told}
 use Rattle.script_reader.specs.declared.ScriptRead.{ScriptRead}
 use Rattle.script_reader.specs.Read.{readTo, readIn, tooShort, flatTold}

@@ -2,7 +2,7 @@
 use mathlib.Core.Path.{_≡_, refl, sym, ap, _∙_, subst}
 use Prim.Native.Nat.{ℕ, _≤_, _<_}
 use native.Mathlib.Omega.{arith}
-use mathlib.Core.Bool.{Bool, true, false, cond, _||_}
+use mathlib.Core.Bool.{Bool, true, false, cond}
 use mathlib.Core.List.{List}
 use lib.Dec.{ltb}
 use lib.ListN.{length, getD, take, drop}
@@ -24,15 +24,15 @@ use Rattle.event_form.specs.Flat.{allFields, allTokens}
 use Rattle.event_form.proofs.Flat.{flat-form}
 use Rattle.script.specs.declared.HeaderRead.{HeaderRead}
 use Rattle.script.specs.declared.HeaderRead.the-variants as H
-use Rattle.script.specs.Events.{Events, events, badFrom}
+use Rattle.script.specs.Events.{events, badFrom}
 use Rattle.script.specs.Parts.{eventsFrom}
-use Rattle.script.specs.Whole.{mostScriptBytes, Header, headerIn, headerAt, Script, accepted, bad, withEvents, withHeader, readScript}
+use Rattle.script.specs.Whole.{mostScriptBytes, headerIn, headerAt, Script, accepted, bad, withEvents, withHeader, readScript}
 use Rattle.script_form.specs.Written.{scriptBytes}
 use Rattle.script_form.proofs.Whole.{script-form}
 use Rattle.script_reader.specs.declared.ScriptRead.{ScriptRead}
 use Rattle.script_reader.specs.declared.Flattened.{Flattened}
 use Rattle.script_reader.specs.declared.Flattened.the-variants as F
-use Rattle.script_reader.specs.Read.{ReadTold, readTo, readIn, refusedRead, tooShort, flatTold, ComesOutOf, WrittenAgain}
+use Rattle.script_reader.specs.Read.{readTo, readIn, refusedRead, tooShort, flatTold, WrittenAgain}
 use Rattle.script_reader.specs.Parts.{refusal, AllTold, Flattens, Measures}
 
 -- a refusal: what it tells, and that it promises nothing

@@ -1,5 +1,5 @@
 -- One event, and all events: what the writer's mask over all numbers of an event comes to, and the loop over the flat form.
-use mathlib.Core.Path.{_≡_, refl, sym, ap, _∙_, subst}
+use mathlib.Core.Path.{_≡_, refl, sym, ap, _∙_}
 use Prim.Native.Nat.{ℕ, zero, suc, _+_, _-_, _*_, _/_, _%_, _≤_, _<_}
 use native.Mathlib.Nat.{add-assoc}
 use native.Mathlib.Omega.{arith}
@@ -7,30 +7,26 @@ use mathlib.Core.Bool.{Bool, true, false, not, cond, _&&_, _||_}
 use mathlib.Core.List.{List, [], _∷_, _++_, append-assoc, append-nil}
 use lib.Dec.{eqb, leb, ltb}
 use lib.ListN.{length, getD, take, drop, length-append}
-use lib.Seq.{take-append-seam, drop-append-seam, drop-drop, length-take-le}
+use lib.Seq.{take-append-seam, length-take-le}
 use mir.Syntax.{w64}
 use mir.Val.{Fits}
-use borrow.Author.Tests.{lt-ltb, le-ltb, le-leb, lt-leb, leb-true, ltb-false, eqb-true, eq-eqb, not-true, not-false}
+use borrow.Author.Tests.{lt-ltb, le-leb, lt-leb, ltb-false, eqb-true, eq-eqb, not-true, not-false}
 use Rattle.base.specs.Columns.{named}
 use Rattle.base.specs.Spliced.{spliced}
-use Rattle.base.proofs.Cases.{cond-true, cond-false, and-left, and-right, and-no}
+use Rattle.base.proofs.Cases.{and-right, and-no, and-false}
 use Rattle.output.specs.Filling.{splicedWithin}
 use Rattle.output.proofs.Filled.{put-fits}
 use Rattle.base.proofs.Spliced.{splice-twice}
 use Rattle.numbers.specs.Groups.{numberBytes}
 use Rattle.drive.specs.Events.{Event, eventOf, reading, elapse, reset, sensorSet, bandSet, geometry, transfer}
-use Rattle.event_form.specs.Form.{Form, formOf, numbersBytes, valuesBytes, valuesFit, eventBytes, holdable, fieldsOf, tokensOf}
+use Rattle.event_form.specs.Form.{formOf, numbersBytes, valuesBytes, valuesFit, eventBytes, holdable, fieldsOf, tokensOf}
 use Rattle.event_form.specs.Kinds.{kindOf}
-use Rattle.event_form.specs.Parts.{widthOf, countOf, Next, next, none, nextIn, Flat, flat, noFlat, before, ended, andThen, eventsIn, eventsOf}
-use Rattle.event_form.proofs.Flat.{next-back, next-is, event-takes, events-on}
+use Rattle.event_form.specs.Parts.{widthOf, countOf, next, nextIn, before}
+use Rattle.event_form.proofs.Flat.{next-is, event-takes}
 use Rattle.sensor_set.specs.Columns.{sensorMasks}
 use Rattle.token_reader.specs.Read.{mostTokenBytes}
-use Rattle.script.specs.Whole.{mostScriptBytes}
-use Rattle.script_form.specs.Written.{eventsBytes, allHoldable}
-use Rattle.script_writer.specs.declared.EventPut.{EventPut}
-use Rattle.script_writer.specs.declared.EventPut.the-variants as P
-use Rattle.script_writer.specs.Parts.{valueBytes, setMask, maskOver, PutAt, PutsEvent, AllPut}
-use Rattle.script_writer.proofs.Values.{value-most, splice-none}
+use Rattle.script_writer.specs.Parts.{valueBytes, setMask, maskOver, PutAt}
+use Rattle.script_writer.proofs.Values.{value-most}
 
 -- ---- the mask over all numbers of an event
 
@@ -227,10 +223,6 @@ module _ (fields tokens : List ℕ) (kind width : ℕ) (k : kind ≡ getD fields
     put-long h e f t q =
         let l : leb (length (tokensOf e)) mostTokenBytes ≡ false = lt-leb (length (tokensOf e)) mostTokenBytes (omega (arith, h, c, first-count fields tokens e f t q)) in
         event-holds e ∙ rw l (and-false (valuesFit (maskOver (fieldsOf e)) (fieldsOf e)))
-      where
-        and-false : (b : Bool) → (b && false) ≡ false
-        and-false true = refl
-        and-false false = refl
 
     pub put-few : length tokens < size → (e : Event) (f t : List ℕ) → nextIn fields tokens ≡ next e f t → holdable e ≡ false
     put-few h e f t q = absurd (omega (arith, h, c, first-count fields tokens e f t q, tokens-long fields tokens e f t q))

@@ -2,20 +2,17 @@
 use mathlib.Core.Path.{_≡_, refl, sym, ap, _∙_}
 use Prim.Native.Nat.{ℕ, _+_, _*_, _/_, _≤_, _<_}
 use native.Mathlib.Nat.{add-assoc, add-zero}
-use native.Mathlib.Numerals.{add-one}
 use native.Mathlib.Omega.{arith}
-use mathlib.Core.Bool.{Bool, true, false, not, cond, _&&_, _||_}
+use mathlib.Core.Bool.{Bool, true, false, not, _||_}
 use mathlib.Core.List.{List, [], _∷_, _++_, append-assoc, append-nil}
 use lib.Dec.{eqb}
-use lib.ListN.{length, getD, take, drop, take-append-drop, drop-of-length-le, length-append}
-use lib.Seq.{drop-cons}
-use mir.Syntax.{w64}
-use mir.Val.{Fits}
+use lib.ListN.{length, getD, take, drop, drop-of-length-le, length-append}
 use borrow.Author.Tests.{not-true, not-false}
 use Rattle.base.specs.Columns.{named}
 use Rattle.base.specs.Spliced.{spliced}
 use Rattle.base.proofs.Cases.{cond-both, or-yes, or-no}
-use Rattle.base.proofs.Spliced.{splice-twice}
+use Rattle.base.proofs.Lists.{rest-from}
+use Rattle.base.proofs.Spliced.{splice-none, splice-twice}
 use Rattle.numbers.specs.declared.ShortForm.{ShortForm}
 use Rattle.numbers.specs.Groups.{numberBytes, Writes}
 use Rattle.numbers.proofs.Shortest.{number-first, number-most}
@@ -24,10 +21,6 @@ use Rattle.output.proofs.Filled.{put-fits}
 use Rattle.event_form.specs.Form.{valuesBytes, valuesFit}
 use Rattle.event_form.proofs.Numbers.{unknown-kind}
 use Rattle.script_writer.specs.Parts.{valueBytes, setMask, maskOver}
-
--- no bytes, put anywhere
-pub splice-none : (d : List ℕ) (at : ℕ) → d ≡ spliced d at []
-splice-none d at = rw (append-nil (take at d), add-zero) (sym (take-append-drop at d))
 
 -- one number
 
@@ -87,9 +80,6 @@ module _ (numbers : List ℕ) (kind : ℕ) (e : kind ≡ getD numbers 0 0) where
 
 -- the numbers from place i on
 
-rest-is : (values : List ℕ) (i : ℕ) → i < length values → drop i values ≡ getD values i 0 ∷ drop (i + 1) values
-rest-is values i h = rw (drop-cons values i 0, add-one)
-
 none-left : (values : List ℕ) (i : ℕ) → length values ≤ i → drop i values ≡ []
 none-left values i h = drop-of-length-le values {i = i} h
 
@@ -125,7 +115,7 @@ module _ (mask : ℕ) (values before : List ℕ) (at : ℕ) (bytes : List ℕ) (
   unfolding valuesBytes
   put-again next n room h e f k =
       let b : List ℕ = valueBytes rest (getD values i 0) in
-      let l : valuesBytes mask values ≡ s .w ++ (b ++ valuesBytes (rest / 2) (drop (i + 1) values)) = s .left ∙ rw (rest-is values i h) in
+      let l : valuesBytes mask values ≡ s .w ++ (b ++ valuesBytes (rest / 2) (drop (i + 1) values)) = s .left ∙ rw (rest-from values i h) in
       record {
         w = s .w ++ b;
         low = omega arith;
@@ -158,11 +148,11 @@ fit-begin mask values = record { low = omega arith; same = refl }
 module _ (mask : ℕ) (values : List ℕ) (rest i : ℕ) (s : Fitting mask values rest i) where
   pub fit-again : (t : Bool) → i < length values → t ≡ (named 1 rest || eqb (getD values i 0) 0) → not t ≡ false → Fitting mask values (rest / 2) (i + 1)
   unfolding valuesFit
-  fit-again t h e q = record { low = omega arith; same = s .same ∙ rw (rest-is values i h, ← e, not-false t q) }
+  fit-again t h e q = record { low = omega arith; same = s .same ∙ rw (rest-from values i h, ← e, not-false t q) }
 
   pub fit-broken : (t : Bool) → i < length values → t ≡ (named 1 rest || eqb (getD values i 0) 0) → not t ≡ true → false ≡ valuesFit mask values
   unfolding valuesFit
-  fit-broken t h e q = rw (s .same, rest-is values i h, ← e, not-true t q)
+  fit-broken t h e q = rw (s .same, rest-from values i h, ← e, not-true t q)
 
   pub fit-done : (r : Bool) → length values ≤ i → r ≡ eqb rest 0 → r ≡ valuesFit mask values
   unfolding valuesFit

@@ -1,13 +1,13 @@
 -- The whole script: header and events, the answers, and what the bytes written read to.
 use mathlib.Core.Path.{_≡_, refl, sym, ap, _∙_, subst}
-use Prim.Native.Nat.{ℕ, zero, suc, _+_, _*_, _≤_, _<_}
+use Prim.Native.Nat.{ℕ, zero, suc, _+_, _≤_}
 use native.Mathlib.Nat.{zero-add}
 use native.Mathlib.Omega.{arith}
 use mathlib.Core.Bool.{Bool, true, false, not, cond, _&&_}
-use mathlib.Core.List.{List, [], _∷_, _++_, append-nil}
-use lib.Dec.{leb, ltb}
+use mathlib.Core.List.{List, [], _∷_, _++_}
+use lib.Dec.{leb}
 use lib.ListN.{length, getD, take, drop, length-append}
-use lib.Seq.{take-append-seam, take-at}
+use lib.Seq.{take-at}
 use mir.Syntax.{w64}
 use mir.Val.{Fits}
 use borrow.Author.Tests.{le-leb, leb-true, not-true, not-false}
@@ -19,7 +19,6 @@ use Rattle.answer.specs.Numbers.{numberOf}
 use Rattle.output.specs.declared.Written.{Written}
 use Rattle.output.specs.Filling.{told, toldIn, toldBy, fillAnswer, filledBy}
 use Rattle.output.proofs.Filled.{filled-bytes}
-use Rattle.numbers.specs.Groups.{tooGreat}
 use Rattle.drive.specs.State.{headerFits}
 use Rattle.drive.specs.Events.{Event}
 use Rattle.event_form.specs.Form.{numbersBytes, valuesBytes, fieldsOf, Words}
@@ -27,11 +26,11 @@ use Rattle.event_form.specs.Parts.{Flat, flat, noFlat, eventsOf}
 use Rattle.event_form.specs.Flat.{allFields}
 use Rattle.event_form.proofs.Flat.{flat-form}
 use Rattle.script.specs.Whole.{mostScriptBytes, readScript}
-use Rattle.script_form.specs.Written.{eventsBytes, scriptBytes, allHoldable, AllWords, Holds}
+use Rattle.script_form.specs.Written.{eventsBytes, scriptBytes, allHoldable, AllWords}
 use Rattle.script_form.proofs.Whole.{script-form}
 use Rattle.script_writer.specs.declared.EventsPut.{EventsPut}
 use Rattle.script_writer.specs.declared.EventsPut.the-variants as A
-use Rattle.script_writer.specs.Write.{writable, bytesFor, writeAnswer, writeRefusals, scriptTold, LowestWritten, ReadsTo, ReadsBack}
+use Rattle.script_writer.specs.Write.{writable, writeAnswer, writeRefusals, scriptTold, LowestWritten, ReadsTo, ReadsBack}
 use Rattle.script_writer.specs.Parts.{outOfRange, AllPut, PutsEvents}
 use Rattle.script_writer.proofs.Events.{values-most}
 

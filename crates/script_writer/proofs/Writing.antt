@@ -1,9 +1,9 @@
 -- The loop over the events of the flat form.
 use mathlib.Core.Path.{_≡_, refl, sym, ap, _∙_, subst}
-use Prim.Native.Nat.{ℕ, zero, suc, _+_, _-_, _≤_, _<_}
+use Prim.Native.Nat.{ℕ, _+_, _-_, _≤_, _<_}
 use native.Mathlib.Nat.{add-assoc, add-zero}
 use native.Mathlib.Omega.{arith}
-use mathlib.Core.Bool.{Bool, true, false, cond, _&&_}
+use mathlib.Core.Bool.{Bool, true, false, _&&_}
 use mathlib.Core.List.{List, [], _∷_, _++_, append-assoc, append-nil}
 use lib.Dec.{eqb, leb, ltb}
 use lib.ListN.{length, take, drop, length-append, length-drop, drop-of-length-le}
@@ -12,8 +12,8 @@ use mir.Syntax.{w64}
 use mir.Val.{Fits}
 use borrow.Author.Tests.{lt-ltb, lt-leb, ne-eqb}
 use Rattle.base.specs.Spliced.{spliced}
-use Rattle.base.proofs.Cases.{and-no}
-use Rattle.base.proofs.Spliced.{splice-twice}
+use Rattle.base.proofs.Cases.{and-no, and-false}
+use Rattle.base.proofs.Spliced.{splice-none, splice-twice}
 use Rattle.drive.specs.Events.{Event}
 use Rattle.event_form.specs.Form.{eventBytes, holdable, fieldsOf, tokensOf}
 use Rattle.event_form.specs.Parts.{Next, next, none, nextIn, Flat, flat, noFlat, ended, andThen, eventsOf}
@@ -24,7 +24,6 @@ use Rattle.script_form.specs.Written.{eventsBytes, allHoldable}
 use Rattle.script_writer.specs.declared.EventPut.{EventPut}
 use Rattle.script_writer.specs.declared.EventPut.the-variants as P
 use Rattle.script_writer.specs.Parts.{PutAt, PutsEvent, AllPut}
-use Rattle.script_writer.proofs.Values.{splice-none}
 
 -- events in front of those that are left
 abbrev after : List Event → Flat → Flat
@@ -207,10 +206,6 @@ module _ (fields tokens before : List ℕ) (start : ℕ) (bytes : List ℕ) (at 
         let f : leb (start + length (eventsBytes all)) mostScriptBytes ≡ false =
         lt-leb (start + length (eventsBytes all)) mostScriptBytes (omega (arith, l, m, n, s .place-is)) in
         rw f (and-false (allHoldable all))
-      where
-        and-false : (b : Bool) → (b && false) ≡ false
-        and-false true = refl
-        and-false false = refl
 
   module _ (r : EventPut) (put : List ℕ) (place width count : ℕ) (p : Put r put) (q : r ≡ P.Is place width count) where
     told : PutAt (drop i fields) (drop used tokens) bytes at place width count put

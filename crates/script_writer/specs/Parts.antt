@@ -13,7 +13,7 @@ use Rattle.numbers.specs.Groups.{numberBytes}
 use Rattle.sensor_set.specs.Columns.{sensorMasks}
 use Rattle.drive.specs.Events.{Event}
 use Rattle.event_form.specs.Form.{eventBytes, holdable, fieldsOf, tokensOf}
-use Rattle.event_form.specs.Parts.{Next, next, nextIn, Flat, flat}
+use Rattle.event_form.specs.Parts.{next, nextIn, Flat, flat}
 use Rattle.script.specs.Whole.{mostScriptBytes}
 use Rattle.script_form.specs.Written.{eventsBytes, allHoldable}
 use Rattle.script_writer.specs.declared.EventPut.{EventPut}

@@ -3,17 +3,16 @@
 use mathlib.Core.Path.{_≡_, refl, sym, ap, _∙_}
 use Prim.Native.Nat.{ℕ, zero, suc, _+_, _-_, _*_, _≤_, _<_}
 use native.Mathlib.Nat.{add-assoc}
-use native.Mathlib.Numerals.{add-one}
 use native.Mathlib.Omega.{arith}
 use mathlib.Core.Bool.{true, false}
 use mathlib.Core.List.{List, [], _∷_, _++_, append-assoc, append-nil}
 use lib.Dec.{leb}
 use lib.ListN.{length, getD, take, drop, set, length-append, length-set, drop-of-length-le, take-append-drop}
-use lib.Seq.{drop-cons}
 use mir.Syntax.{w64}
 use mir.Val.{Fits}
 use borrow.Author.Tests.{le-leb, lt-leb, leb-true}
 use Rattle.base.specs.Spliced.{spliced}
+use Rattle.base.proofs.Lists.{rest-from}
 use Rattle.base.proofs.Spliced.{splice-twice, set-splice}
 use Rattle.base.proofs.Cases.{and-left, and-right}
 use Rattle.base.proofs.Loops.{Filled, fill-begin as filled-begin, fill-again as filled-again, fill-done as filled-done}
@@ -24,10 +23,6 @@ use Rattle.expression.specs.Elements.{element}
 use Rattle.token_reader.specs.Format.{widthOf, partBytes, bodyOf, bytesOf}
 use Rattle.token_reader.proofs.Listing.{width-most}
 use Rattle.token_writer.specs.Write.{partOf, codeOf, codesOf, codesFit, elementsOf, neededFor}
-
--- the numbers from place i on
-rest : (codes : List ℕ) (i : ℕ) → i < length codes → drop i codes ≡ getD codes i 0 ∷ drop (i + 1) codes
-rest codes i h = rw (drop-cons codes i 0, add-one)
 
 none-left : (codes : List ℕ) (i : ℕ) → length codes ≤ i → drop i codes ≡ []
 none-left codes i h = drop-of-length-le codes {i = i} h
@@ -44,11 +39,11 @@ fit-begin codes = record { low = omega arith; same = refl }
 module _ (codes : List ℕ) (i : ℕ) (f : Fitting codes i) where
   pub fit-again : i < length codes → getD codes i 0 ≤ 4294967298 → Fitting codes (i + 1)
   unfolding codesFit
-  fit-again h k = record { low = omega arith; same = f .same ∙ rw (rest codes i h, le-leb (getD codes i 0) 4294967298 k) }
+  fit-again h k = record { low = omega arith; same = f .same ∙ rw (rest-from codes i h, le-leb (getD codes i 0) 4294967298 k) }
 
   pub fit-broken : i < length codes → 4294967298 < getD codes i 0 → false ≡ codesFit codes
   unfolding codesFit
-  fit-broken h k = rw (f .same, rest codes i h, lt-leb (getD codes i 0) 4294967298 k)
+  fit-broken h k = rw (f .same, rest-from codes i h, lt-leb (getD codes i 0) 4294967298 k)
 
   pub fit-done : length codes ≤ i → true ≡ codesFit codes
   unfolding codesFit
@@ -118,7 +113,7 @@ module _ (codes : List ℕ) (total i : ℕ) (s : Sizing codes total i) where
   size-again p w h e q =
       let m : w ≤ 12 = omega (arith, width-most p) in
       let t : total + (widthOf (partOf (getD codes i 0)) + neededFor (elementsOf (drop (i + 1) codes))) ≡ 2 + neededFor (elementsOf codes) =
-      rw (rest codes i h) at (s .sizes) in
+      rw (rest-from codes i h) at (s .sizes) in
       record { low = omega arith; sizes = rw (q, e) (omega arith); most = omega (arith, s .most) }
 
   pub size-small : (p : Part) (w : ℕ) → length codes ≤ 32 → w ≡ widthOf p → Fits w64 (total + w)
@@ -166,7 +161,7 @@ module _ (d codes out : List ℕ) (at i : ℕ) (s : Writing d codes out at i) wh
   fill-room p h e =
       let b : List ℕ = partBytes (partOf (getD codes i 0)) in
       let l : length (bodyOf (elementsOf (drop i codes))) ≡ length b + length (bodyOf (elementsOf (drop (i + 1) codes))) =
-      rw (rest codes i h, length-append) in
+      rw (rest-from codes i h, length-append) in
       rw e (omega (arith, taken, l, width-is (partOf (getD codes i 0)), s .room, s .long))
 
   pub fill-again : (p : Part) (w : ℕ) (next : List ℕ) → i < length codes → p ≡ partOf (getD codes i 0) → w ≡ widthOf p
@@ -184,7 +179,7 @@ module _ (d codes out : List ℕ) (at i : ℕ) (s : Writing d codes out at i) wh
         place = rw (length-append, s .place, c, add-assoc);
         left =
             rw (append-assoc (s .w) b (bodyOf (elementsOf (drop (i + 1) codes))))
-            (ap (λ (r : List ℕ). s .w ++ r) (rw (rest codes i h)) ∙ s .left);
+            (ap (λ (r : List ℕ). s .w ++ r) (rw (rest-from codes i h)) ∙ s .left);
         long = k ∙ s .long;
       }
 

@@ -3,12 +3,12 @@ use mathlib.Core.Path.{_≡_, refl, ap, _∙_}
 use Prim.Native.Nat.{ℕ, zero, suc, _+_, _-_, _*_, _/_, _%_, _≤_, _<_}
 use native.Mathlib.Nat.{not-suc-le-zero, le-of-suc-le-suc}
 use native.Mathlib.Omega.{arith}
-use mathlib.Core.Bool.{Bool, true, false, _&&_}
+use mathlib.Core.Bool.{true, false}
 use mathlib.Core.List.{List, [], _∷_, _++_}
 use lib.Dec.{eqb, leb, ltb}
 use lib.ListN.{length, drop, length-append}
 use borrow.Author.Tests.{lt-ltb, le-ltb, le-leb, leb-true, ltb-true, ltb-false}
-use Rattle.base.proofs.Cases.{and-left, and-right, cond-either}
+use Rattle.base.proofs.Cases.{and-left, and-right, and-false, cond-either}
 use Rattle.expression.specs.declared.Part.{Part}
 use Rattle.expression.specs.declared.Part.the-variants.{Reference, Operator}
 use Rattle.expression.specs.declared.Element.{Element}
@@ -75,10 +75,6 @@ numbers-fit (n ∷ codes) f = (
 )
 
 -- reading what is written
-
-and-false : (b : Bool) → (b && false) ≡ false
-and-false true = refl
-and-false false = refl
 
 not-end : (p : Part) (rest : List ℕ) → isEnd (partBytes p ++ rest) ≡ false
 unfolding isEnd
