@@ -438,7 +438,7 @@ fn lengths(r: &mut Random, reached: &mut Forms) {
     }
 }
 
-/// The scripts with the most numbers and with the most bytes of expressions: include/drive.h names both.
+/// The scripts with the most numbers and with the most bytes of expressions: fewer than include/drive.h has as enough.
 fn most(r: &mut Random, reached: &mut Forms) {
     let empty = (vec![4, 0, 0, 0, 0, 0, 0, 0, 0, 0], vec![]);
     let fields = forms::flat([1, 1, 0], &vec![empty; 21_844]);
