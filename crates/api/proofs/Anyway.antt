@@ -63,8 +63,8 @@ no_row count most i h = contra (is_row count i) (is_row most i) up
     contra true false f e = absurd (false≢true (f refl))
     contra false b f e = refl
 
-past_end : (capacity most start n : ℕ) → capacity ≤ most → past_end most start n ≡ true → past_end capacity start n ≡ true
-past_end capacity most start n h = go (ltb most start) refl
+past_end_lem : (capacity most start n : ℕ) → capacity ≤ most → past_end most start n ≡ true → past_end capacity start n ≡ true
+past_end_lem capacity most start n h = go (ltb most start) refl
   where
     go : (x : Bool) → ltb most start ≡ x → (x || ltb (most - start) n) ≡ true → past_end capacity start n ≡ true
     go true q e = sym (or_yes _ _ (lt-ltb capacity start (omega (arith, h, ltb-true most start q))))
@@ -102,10 +102,10 @@ module _ (d : Drive) (fits : InRange d) where
   passes (sensing s x) = first 1 _ _ _ _ (same (sensor_refusals x)) (no_row d.sensor_count most_sensors s few-sensors)
   passes (placing b start n) =
       first 1 _ _ _ _
-      (alike 5 _ _ _ (first 6 _ _ _ _ (later 7 _ _ [] [] (same []) (omega arith)) (past_end d.capacity most_blocks start n few-blocks)))
+      (alike 5 _ _ _ (first 6 _ _ _ _ (later 7 _ _ [] [] (same []) (omega arith)) (past_end_lem d.capacity most_blocks start n few-blocks)))
       (no_row d.band_count most_bands b few-bands)
   passes (looking w start n) =
-      alike 2 _ _ _ (first 6 _ _ _ _ (later 9 _ _ [] [] (same []) (omega arith)) (past_end d.capacity most_blocks start n few-blocks))
+      alike 2 _ _ _ (first 6 _ _ _ _ (later 9 _ _ [] [] (same []) (omega arith)) (past_end_lem d.capacity most_blocks start n few-blocks))
 
 greatest-fits : InRange greatest
 unfolding header_fits fresh_drive

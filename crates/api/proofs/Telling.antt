@@ -339,14 +339,14 @@ module _ (bytes : List ℕ) (r : Shown) (h : Shows bytes r) (answer : ℕ) (e : 
   abbrev shown_by : ℕ → Features → ShownTold
   shown_by n f = shown_to n (written n (one_if f.locking) was) (written n (one_if f.ranges) was') (written n f.flags was'')
 
-  shown_by : shown_by answer r.features ≡ shown_told bytes was was' was''
-  shown_by = ap (λ (n : ℕ). shown_by n r.features) (e ∙ h.answer) ∙ ap (shown_by (read_answer bytes)) h.features
+  shown_by_lem : shown_by answer r.features ≡ shown_told bytes was was' was''
+  shown_by_lem = ap (λ (n : ℕ). shown_by n r.features) (e ∙ h.answer) ∙ ap (shown_by (read_answer bytes)) h.features
 
   pub shown-refused : answer ≢ 0 → shown_to answer was was' was'' ≡ shown_told bytes was was' was''
   shown-refused q =
       ap (λ (b : Bool). shown_to answer (cond b (one_if r.features.locking) was) (cond b (one_if r.features.ranges) was') (cond b r.features.flags was''))
       (sym (ne_eqb answer 0 q))
-      ∙ shown_by
+      ∙ shown_by_lem
 
   pub shown-told : (locking ranges : ℕ) → answer ≡ 0 → locking ≡ one_if r.features.locking → ranges ≡ one_if r.features.ranges
       → shown_to answer locking ranges r.features.flags ≡ shown_told bytes was was' was''
@@ -354,4 +354,4 @@ module _ (bytes : List ℕ) (r : Shown) (h : Shows bytes r) (answer : ℕ) (e : 
       rw (l, m)
       (ap (λ (b : Bool). shown_to answer (cond b (one_if r.features.locking) was) (cond b (one_if r.features.ranges) was') (cond b r.features.flags was''))
       (sym (eq-eqb answer 0 q))
-      ∙ shown_by)
+      ∙ shown_by_lem)

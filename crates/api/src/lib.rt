@@ -1,5 +1,7 @@
 // The functions that programs in other languages link: numbers and slices of numbers, and every result a number. A result beside the
 // answer is written through a `&mut` of its own, and a refusal leaves what was there.
+#![tactic(auto)]
+
 ghost use Rattle.std.specs.Prelude.{◌≡◌, ℕ};
 ghost use Rattle.base.specs.Lists.{one_if};
 ghost use Rattle.output.specs.Filling.{told, filled_by};

@@ -1,4 +1,6 @@
 // One locking row, or band (document 01, 'Bands'; 002, 4.3.4 and 4.3.7): what settling and a reset make of it.
+#![tactic(auto)]
+
 ghost use Rattle.std.specs.Prelude.{◌≡◌, true, not};
 ghost use Rattle.band.specs.Rows.{fresh_row, closed_on, value_in, with_locked, lock_under, settle_row, reset_bit, in_set, reset_row};
 ghost use Rattle.band.specs.Parts.{is_lockable, locks_by};
@@ -7,14 +9,14 @@ use evaluator::Evaluation;
 use expression::Expression;
 
 // A side of a row: what its two lock columns guard.
-#[derive(Drop)]
+#[derive(Clone, Copy)]
 pub enum Side {
     Read,
     Write,
 }
 
 // A row's columns. LockOnReset is a set as bits: 1 power cycle, 2 hardware, 4 hot plug, 8 programmatic.
-#[derive(Drop)]
+#[derive(Clone, Copy)]
 pub struct Row {
     pub read_lock_enabled: bool,
     pub write_lock_enabled: bool,

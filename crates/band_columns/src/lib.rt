@@ -1,4 +1,6 @@
 // The columns that a Set of a band carries (document 01, 'Bands'): their ranges, the row that they form, and whether it is held.
+#![tactic(auto)]
+
 ghost use Rattle.std.specs.Prelude.{◌≡◌, cond, ◌&&◌, eqb};
 ghost use Rattle.base.specs.Columns.{named};
 ghost use Rattle.band_columns.specs.Sets.{columns_fit, formed_row, held_by};
@@ -9,7 +11,7 @@ use expression::Expression;
 
 // What a Set carries beside the expression. A column is named by its bit in the mask: 1 ReadLockEnabled, 2 WriteLockEnabled,
 // 4 ReadLocked, 8 WriteLocked, 16 LockOnReset, 32 the expression. A value that is not named is not looked at.
-#[derive(Drop)]
+#[derive(Clone, Copy)]
 pub struct BandColumns {
     pub mask: u64,
     pub read_lock_enabled: u64,

@@ -1,4 +1,6 @@
 // The locking rows of a drive (document 01, 'Bands'), by value: one of them, what a reset makes of all sixteen, and which are closed.
+#![tactic(auto)]
+
 ghost use Rattle.std.specs.Prelude.{◌≡◌, map};
 ghost use Rattle.base.specs.Rows.{Takes};
 ghost use Rattle.band.specs.Rows.{fresh_row, reset_row, closed_on};

@@ -1,4 +1,6 @@
 // The smallest functions that several crates above share. The rest of this crate is definitions and laws.
+#![tactic(auto)]
+
 ghost use Rattle.std.specs.Prelude.{◌≡◌, ◌&&◌, ◌||◌};
 ghost use Rattle.base.specs.Columns.{named, within};
 

@@ -1,6 +1,10 @@
 // The cases of a test program's input, each after its length in four bytes, low first.
+#![tactic(auto)]
+
 ghost use Rattle.std.specs.Prelude.{◌≡◌, false, ◌+◌, ◌*◌, ◌≤◌, length};
 ghost use Rattle.cases.specs.Cases.{size_at, whole_at, next_at, case_place, case_of, case_count, left_over};
+
+use std::io::Read;
 
 fn joined(a: u8, b: u8, c: u8, d: u8) -> usize
     ensures { result ≡ a + b * 256 + c * 65536 + d * 16777216 }
@@ -70,7 +74,7 @@ pub fn case_of(input: &[u8], number: usize) -> &[u8]
 }
 
 // What an input holds: how many whole cases, and how many bytes are left over after them.
-#[derive(Drop)]
+#[derive(Clone, Copy)]
 pub struct Counted {
     pub count: usize,
     pub left: usize,
@@ -92,37 +96,63 @@ pub fn held(input: &[u8]) -> Counted
     }
 }
 
+// Reads until the space is full, a read moves no byte or a read fails, and answers how many bytes were put at the space's start.
+pub fn read_full<R: Read>(reader: &mut R, space: &mut [u8]) -> usize
+    ensures { result ≤ length space.new }
+{
+    let mut done = 0;
+    while done < space.len() {
+        let count = reader.read(&mut space[done..]).unwrap_or(0);
+        if count == 0 {
+            break;
+        }
+        done += count;
+    }
+    done
+}
+
+// What is printed is held to the file stdout, which also shows a write that failed.
+fn print(rt: &impl Print, text: &[u8]) {
+    let _ = rt.write_all(text);
+}
+
+fn print_number(rt: &impl Print, n: usize) {
+    let _ = rt.print(n);
+}
+
 // Prints a complaint of a number of bytes, after the program's name.
-fn print_left(program: &[u8], count: usize, text: &[u8]) {
-    io::write_all(1, program);
-    io::write_all(1, b": ");
-    io::print_decimal(1, count as u64);
-    io::write_all(1, text);
+fn print_left(rt: &impl Print, program: &[u8], count: usize, text: &[u8]) {
+    print(rt, program);
+    print(rt, b": ");
+    print_number(rt, count);
+    print(rt, text);
 }
 
 // Whether standard input goes on.
-fn goes_on() -> bool {
-    let mut space = io::buffer();
-    io::read_full(0, &mut space) != 0
+fn goes_on(rt: &impl Input) -> bool {
+    let mut space = [0; 4_096];
+    read_full(&mut rt.reader(), &mut space) != 0
 }
 
 // Prints how many cases an input holds, and complains of what is left over: bytes after the last whole case, and bytes that were not read.
 // It hands back what it printed of the input.
-pub fn print_end(program: &[u8], input: &[u8]) -> Counted
+pub fn print_end(rt: &(impl Print + Input), program: &[u8], input: &[u8]) -> Counted
     ensures { (result.count ≡ case_count input.now) × (result.left ≡ left_over input.now) }
 {
     let held = held(input);
-    io::print_decimal(1, held.count as u64);
-    io::write_all(1, b" cases\n");
+    print_number(rt, held.count);
+    print(rt, b" cases\n");
     if 0 < held.left {
         print_left(
+            rt,
             program,
             held.left,
             b" bytes are left over after the last case\n",
         );
     }
-    if goes_on() {
+    if goes_on(rt) {
         print_left(
+            rt,
             program,
             input.len(),
             b" bytes were read, and the input goes on\n",

@@ -14,13 +14,13 @@ module _ {M : Type 0} (clear mark : M → Bool) where
   pub after-append : (l : Bool) (xs ys : List M) → flag_after l (xs ++ ys) ≡ flag_after (flag_after l xs) ys
   unfolding flag_after
   after-append l [] ys = refl
-  after-append l (x ∷ xs) ys = after-append _ xs ys
+  after-append l (x ∷ xs) ys = after-append ((not (clear x) && l) || mark x) xs ys
 
   -- a flag that is up and never cleared stays up
   stays_up : (l : Bool) (ms : List M) → l ≡ true → any clear ms ≡ false → flag_after l ms ≡ true
   unfolding flag_after any
   stays_up l [] t n = t
-  stays_up l (m ∷ ms) t n = let k = neither (clear m) (any clear ms) n in stays_up _ ms (rw (k.0, t)) k.1
+  stays_up l (m ∷ ms) t n = let k = neither (clear m) (any clear ms) n in stays_up ((not (clear m) && l) || mark m) ms (rw (k.0, t)) k.1
 
   -- some moment marks it and no later one clears it
   unfoldable pub Last : List M → Type 0
@@ -35,7 +35,7 @@ module _ {M : Type 0} (clear mark : M → Bool) where
   pub to_last : (l : Bool) (ms : List M) → flag_after l ms ≡ true → ((l ≡ true) × (any clear ms ≡ false)) ⊎ Last ms
   unfolding Last flag_after any
   to_last l [] t = inl (t, refl)
-  to_last l (m ∷ ms) t = go (to_last _ ms t)
+  to_last l (m ∷ ms) t = go (to_last ((not (clear m) && l) || mark m) ms t)
     where
       now : (c l k : Bool) → ((not c && l) || k) ≡ true → any clear ms ≡ false → ((l ≡ true) × ((c || any clear ms) ≡ false)) ⊎ (k ≡ true)
       now true l k u n = inr u

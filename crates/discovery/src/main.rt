@@ -1,4 +1,6 @@
 // Prints the discovery answer of the drive that the script of standard input leaves. The test runs it on document 01's worked script.
-fn main() {
-    program::discover();
+#![tactic(auto)]
+
+fn main(rt: HostRuntime) {
+    program::discover(&rt);
 }

@@ -1,4 +1,6 @@
 // The Level 0 discovery answer (document 02, #102; 003, 10.2.14 and 3.6.2.2; 002, 4.1.1): written of a drive, and read.
+#![tactic(auto)]
+
 ghost use Rattle.std.specs.Prelude.{◌≡◌, List, [], ◌∷◌, ◌+◌, ◌*◌, ◌<◌, ◌≤◌, length, take, drop};
 ghost use Rattle.base.specs.Lists.{any};
 ghost use Rattle.answer.specs.declared.Answer.TheVariants.{ShortAnswer};
@@ -54,7 +56,7 @@ const MEDIA_ENCRYPTION: u8 = 8;
 const FLAGS: u8 = 64;
 
 // What is shown of an answer: whether each of the two features is there, and the flags of the Locking feature.
-#[derive(Drop)]
+#[derive(Clone, Copy)]
 pub struct Features {
     pub locking: bool,
     pub ranges: bool,
@@ -62,7 +64,7 @@ pub struct Features {
 }
 
 // What reading gives: nothing is shown where it is refused.
-#[derive(Drop)]
+#[derive(Clone, Copy)]
 pub struct Shown {
     pub answer: Answer,
     pub features: Features,

@@ -3,55 +3,58 @@
 //
 // Then it prints a line for each of some drives that no script leaves: the number of bands, one row and its columns, and of the answer that is
 // written the number of bytes and the flags.
+#![tactic(auto)]
+
 use band::Row;
 use drive::Drive;
 
-fn print(text: &[u8]) {
-    io::write_all(1, text);
+// What is printed is held to the file stdout, which also shows a write that failed.
+fn print(rt: &impl Print, text: &[u8]) {
+    let _ = rt.write_all(text);
 }
 
-fn print_number(n: u64) {
-    io::print_decimal(1, n);
+fn print_number(rt: &impl Print, n: u64) {
+    let _ = rt.print(n);
 }
 
-fn print_next(n: u64) {
-    print(b" ");
-    print_number(n);
+fn print_next(rt: &impl Print, n: u64) {
+    print(rt, b" ");
+    print_number(rt, n);
 }
 
-fn print_if(b: bool) {
+fn print_if(rt: &impl Print, b: bool) {
     if b {
-        print(b" 1");
+        print(rt, b" 1");
     } else {
-        print(b" 0");
+        print(rt, b" 0");
     }
 }
 
 // Reads one string of bytes.
-fn case(number: usize, bytes: &[u8]) {
+fn case(rt: &impl Print, number: usize, bytes: &[u8]) {
     let shown = discovery_answer::read(bytes);
     let answer = shown.answer;
     let features = shown.features;
-    print_number(number as u64);
-    print_next(answer.number() as u64);
-    print_if(features.locking);
-    print_if(features.ranges);
-    print_next(features.flags as u64);
-    print(b"\n");
+    print_number(rt, number as u64);
+    print_next(rt, answer.number() as u64);
+    print_if(rt, features.locking);
+    print_if(rt, features.ranges);
+    print_next(rt, features.flags as u64);
+    print(rt, b"\n");
 }
 
-fn all_cases(input: &[u8], count: usize) {
+fn all_cases(rt: &impl Print, input: &[u8], count: usize) {
     for number in 0..count {
         let bytes = cases::case_of(input, number);
-        case(number, bytes);
+        case(rt, number, bytes);
     }
 }
 
 // Runs every case of the input, and says how many there were and what is left over.
-fn run(input: &[u8]) {
+fn run(rt: &(impl Print + Input), input: &[u8]) {
     let held = cases::held(input);
-    all_cases(input, held.count);
-    cases::print_end(b"discovery_test", input);
+    all_cases(rt, input, held.count);
+    cases::print_end(rt, b"discovery_test", input);
 }
 
 // A row with these lock columns.
@@ -77,42 +80,42 @@ fn drive_with(bands: u64, at: usize, row: Row) -> Drive {
 }
 
 // Writes the answer of a drive, and reads it.
-fn drive_case(bands: u64, at: usize, row: Row) {
-    print(b"drive");
-    print_next(bands);
-    print_next(at as u64);
-    print_if(row.read_lock_enabled);
-    print_if(row.write_lock_enabled);
-    print_if(row.read_locked);
-    print_if(row.write_locked);
-    print(b":");
+fn drive_case(rt: &impl Print, bands: u64, at: usize, row: Row) {
+    print(rt, b"drive");
+    print_next(rt, bands);
+    print_next(rt, at as u64);
+    print_if(rt, row.read_lock_enabled);
+    print_if(rt, row.write_lock_enabled);
+    print_if(rt, row.read_locked);
+    print_if(rt, row.write_locked);
+    print(rt, b":");
     let drive = drive_with(bands, at, row);
     let mut out = [0xEE; 96];
     let written = discovery_answer::write(drive, &mut out);
     let shown = discovery_answer::read(&out);
     let features = shown.features;
-    print_next(written.count as u64);
-    print_next(features.flags as u64);
-    print(b"\n");
+    print_next(rt, written.count as u64);
+    print_next(rt, features.flags as u64);
+    print(rt, b"\n");
 }
 
-fn drive_cases() {
-    drive_case(2, 1, row_with(true, false, true, false));
-    drive_case(2, 1, row_with(false, true, false, true));
-    drive_case(2, 0, row_with(true, false, true, false));
-    drive_case(2, 1, row_with(false, false, true, true));
-    drive_case(2, 1, row_with(true, true, false, false));
-    drive_case(2, 1, row_with(true, false, false, true));
-    drive_case(2, 1, row_with(false, true, true, false));
-    drive_case(2, 2, row_with(true, true, true, true));
-    drive_case(16, 15, row_with(false, true, false, true));
-    drive_case(15, 15, row_with(false, true, false, true));
-    drive_case(1, 0, row_with(true, true, true, true));
+fn drive_cases(rt: &impl Print) {
+    drive_case(rt, 2, 1, row_with(true, false, true, false));
+    drive_case(rt, 2, 1, row_with(false, true, false, true));
+    drive_case(rt, 2, 0, row_with(true, false, true, false));
+    drive_case(rt, 2, 1, row_with(false, false, true, true));
+    drive_case(rt, 2, 1, row_with(true, true, false, false));
+    drive_case(rt, 2, 1, row_with(true, false, false, true));
+    drive_case(rt, 2, 1, row_with(false, true, true, false));
+    drive_case(rt, 2, 2, row_with(true, true, true, true));
+    drive_case(rt, 16, 15, row_with(false, true, false, true));
+    drive_case(rt, 15, 15, row_with(false, true, false, true));
+    drive_case(rt, 1, 0, row_with(true, true, true, true));
 }
 
-fn main() {
-    let mut input = io::large_buffer();
-    let n = io::read_full(0, &mut input);
-    run(&input[..n]);
-    drive_cases();
+fn main(rt: HostRuntime) {
+    let mut input = [0; 65_536];
+    let n = cases::read_full(&mut rt.reader(), &mut input);
+    run(&rt, &input[..n]);
+    drive_cases(&rt);
 }

@@ -1,4 +1,6 @@
 // The drive (document 01, 'The drive and its refusals'): its state by value, the fresh one, and settling.
+#![tactic(auto)]
+
 ghost use Rattle.std.specs.Prelude.{not, ◌≡◌};
 ghost use Rattle.base.specs.Rows.{is_row};
 ghost use Rattle.expression.specs.Elements.{most_elements};
@@ -23,7 +25,7 @@ use sensor::Sensor;
 use sensor_set::SensorColumns;
 
 // Sixteen rows, spans and sensors, whatever the header counts: the first `band_count` and `sensor_count` of them are in use.
-#[derive(Drop)]
+#[derive(Clone, Copy)]
 pub struct Drive {
     pub capacity: u64,
     pub band_count: usize,
@@ -34,14 +36,14 @@ pub struct Drive {
 }
 
 // What the fresh call hands back.
-#[derive(Drop)]
+#[derive(Clone, Copy)]
 pub struct Fresh {
     pub answer: Answer,
     pub drive: Drive,
 }
 
 // An event without its expression bytes, which go beside it.
-#[derive(Drop)]
+#[derive(Clone, Copy)]
 pub enum Kind {
     Reading {
         sensor: u64,
@@ -75,7 +77,7 @@ pub enum Kind {
 }
 
 // What an event hands back. There are no stops but those of an elapse.
-#[derive(Drop)]
+#[derive(Clone, Copy)]
 pub struct Reply {
     pub answer: Answer,
     pub stops: u64,

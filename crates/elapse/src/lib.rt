@@ -1,4 +1,6 @@
 // An elapse (document 01, 'Sensors'): ticks with the bands settled after each, from stop to stop and not tick by tick.
+#![tactic(auto)]
+
 ghost use Rattle.elapse.specs.Jumps.{Elapses};
 
 use drive::Drive;
@@ -7,7 +9,7 @@ use drive::Drive;
 pub const MOST_TICKS: u64 = 4_294_967_295;
 
 // The drive after an elapse, and the elapse's stops.
-#[derive(Drop)]
+#[derive(Clone, Copy)]
 pub struct Elapsed {
     pub drive: Drive,
     pub stops: u64,

@@ -1,6 +1,8 @@
 // The value of an expression (document 01, 'Value of an expression'; 002, 3.2.4): TRUE, FALSE or malformed (document 02, #104).
 //
 // The stack is the bits of a number: the last value lowest, and a 1 above the first. It is 0 once the list is malformed.
+#![tactic(auto)]
+
 ghost use Rattle.std.specs.Prelude.{◌≡◌, ◌&&◌, ◌||◌, not, ◌<◌, take, ◌∷◌};
 ghost use Rattle.evaluator.specs.Value.{condition_at, on_two, on_one, operator_of, put_element, value_of, is_true};
 ghost use Rattle.std.proofs.Math.Option.{some};
@@ -10,7 +12,7 @@ ghost use Rattle.expression.specs.Elements.{elements_in};
 use expression::{Element, Expression, Part};
 
 // What evaluation says of a list of elements.
-#[derive(Drop)]
+#[derive(Clone, Copy)]
 pub enum Evaluation {
     True,
     False,

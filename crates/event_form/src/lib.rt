@@ -1,4 +1,6 @@
 // An event by its numbers (document 02, #106): its kind, and then every field, a Set's values named or not.
+#![tactic(auto)]
+
 ghost use Rattle.std.specs.Prelude.{◌≡◌, get_or};
 ghost use Rattle.event_form.specs.Kinds.{sensor_columns, band_columns, kind_of};
 ghost use Rattle.event_form.specs.Parts.{width_of, count_of, Numbers};
@@ -119,7 +121,7 @@ pub fn count_of(fields: &[u64]) -> u64
 }
 
 // The numbers of an event: so many from the start, and 0 after them.
-#[derive(Drop)]
+#[derive(Clone, Copy)]
 pub struct EventNumbers {
     pub numbers: [u64; 10],
     pub width: usize,

@@ -1,4 +1,6 @@
 // One event of a script (document 01, 'Script'): its kind and its fields, read at their places.
+#![tactic(auto)]
+
 ghost use Rattle.std.specs.Prelude.{◌≡◌, cond, eqb};
 ghost use Rattle.numbers.specs.Groups.{found_in};
 ghost use Rattle.event_reader.specs.Fields.{column_at, first_columns_at, expression_at, parsed_in, reading_at, elapse_at, reset_at, sensor_set_at, band_set_at, geometry_at, transfer_at, event_at};
@@ -10,7 +12,7 @@ use numbers::Number;
 use sensor_set::SensorColumns;
 
 // What reading at a place finds: an event, where its expression's bytes start and how many they are, and the place after it.
-#[derive(Drop)]
+#[derive(Clone, Copy)]
 pub enum EventRead {
     Is {
         kind: Kind,
@@ -22,14 +24,14 @@ pub enum EventRead {
 }
 
 // An expression's bytes: where they start, how many they are, and the place after them.
-#[derive(Drop)]
+#[derive(Clone, Copy)]
 pub enum BytesRead {
     Is(usize, usize, usize),
     Bad,
 }
 
 // The columns of bits 1 to 16, by rising bit, and the place after them.
-#[derive(Drop)]
+#[derive(Clone, Copy)]
 pub enum FirstColumns {
     Is(u64, u64, u64, u64, u64, usize),
     Bad,

@@ -1,4 +1,6 @@
 // The seven events of a drive (document 01): each takes any numbers and any drive, and hands back the answer, the stops and the drive.
+#![tactic(auto)]
+
 ghost use Rattle.std.specs.Prelude.{◌≡◌, cond, map, ◌<◌, ◌≤◌, eqb, set};
 ghost use Rattle.answer.specs.Numbers.{number_of};
 ghost use Rattle.sensor.specs.Single.{power_cycle_of};

@@ -1,21 +1,23 @@
 // Security Expressions by value: the elements, and the array of them that a locking row holds.
+#![tactic(auto)]
+
 ghost use Rattle.std.specs.Prelude.{◌≡◌, []};
 ghost use Rattle.expression.specs.Elements.{expression_of};
 
 // What an element is: a reference to a sensor's row, or an operator by its code, 0 AND, 1 OR, 2 NOT.
-#[derive(Drop)]
+#[derive(Clone, Copy)]
 pub enum Part {
     Reference(u32),
     Operator(u8),
 }
 
-#[derive(Drop)]
+#[derive(Clone, Copy)]
 pub struct Element {
     pub part: Part,
 }
 
 // The first `count` elements count; the others are blank.
-#[derive(Drop)]
+#[derive(Clone, Copy)]
 pub struct Expression {
     pub elements: [Element; Expression::ELEMENTS],
     pub count: usize,

@@ -1,4 +1,6 @@
 // Where the bands lie, and which blocks a transfer touches (document 01, 'Geometry and transfers'). Nothing here goes from block to block.
+#![tactic(auto)]
+
 ghost use Rattle.std.specs.Prelude.{◌≡◌, true, false, ◌&&◌, ◌||◌, ◌↔◌, ◌+◌, ◌<◌, min, take, drop};
 ghost use mathlib.Core.List.{foldl};
 ghost use Rattle.answer.specs.Numbers.{number_of};
@@ -9,21 +11,21 @@ ghost use Rattle.geometry.specs.Parts.{Alike, OneBand, Barred};
 use answer::Answer;
 
 // The blocks of a band: `length` of them from `start` on.
-#[derive(Drop)]
+#[derive(Clone, Copy)]
 pub struct Span {
     pub start: u64,
     pub length: u64,
 }
 
 // A geometry's answer, and the spans after it.
-#[derive(Drop)]
+#[derive(Clone, Copy)]
 pub struct Placed {
     pub answer: Answer,
     pub spans: [Span; 16],
 }
 
 // Blocks that lie in one band, from a block on.
-#[derive(Drop)]
+#[derive(Clone, Copy)]
 struct Run {
     band: usize,
     count: u64,

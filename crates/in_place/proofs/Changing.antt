@@ -5,7 +5,7 @@ use native.Mathlib.Omega.{arith}
 use mathlib.Core.Bool.{Bool, true, false, not, cond}
 use mathlib.Core.List.{List}
 use lib.Dec.{eqb, ltb}
-use borrow.Author.Rules.{scaled_fits}
+use borrow.Author.Rules.{scaled_Fits}
 use borrow.Author.Tests.{eqb-true, ltb-true, ltb-false}
 use mir.Val.{Fits}
 use mir.Syntax.{w64}
@@ -133,11 +133,11 @@ module _ (sensors bands : ℕ) (kind : Kind) (t : Change) (p : t ≡ change_of s
   sensor-place event q = subst Placed (sym p ∙ q) (placed sensors bands kind)
 
   pub sensor-scaled : (event : SensorEvent) (m : ℕ) → t ≡ C.OneSensor j event → 16 * m < 2 ^ 63 → Fits w64 (j * m)
-  sensor-scaled event m q h = scaled_fits j 16 m (sensor-place event q) h
+  sensor-scaled event m q h = scaled_Fits j 16 m (sensor-place event q) h
 
   pub row-placed : (c : _) → t ≡ C.OneRow j c → j < 16
   unfolding Placed
   row-placed c q = subst Placed (sym p ∙ q) (placed sensors bands kind)
 
   pub row_scaled : (c : _) (m : ℕ) → t ≡ C.OneRow j c → 16 * m < 2 ^ 63 → Fits w64 (j * m)
-  row_scaled c m q h = scaled_fits j 16 m (row-placed c q) h
+  row_scaled c m q h = scaled_Fits j 16 m (row-placed c q) h

@@ -1,6 +1,8 @@
 // The events of a script, one after the other, on a drive that this crate owns: an event stores one sensor, one row, the spans or the
 // sensors, and then the rows that are lockable (a side enabled and not locked) may lock. The drive goes by value only where a timer ends while
 // a row may be lockable.
+#![tactic(auto)]
+
 ghost use Rattle.std.specs.Prelude.{not, cond, map, ◌≡◌, ◌≤◌, eqb, ltb, length};
 ghost use Rattle.std.specs.Bool.{beq};
 ghost use Rattle.sensor_set.specs.Columns.{sensor_answer, sensor_after};
@@ -25,7 +27,7 @@ use sensor_set::SensorEvent;
 const NO_RESET: u64 = 255;
 
 // What an event changes of a drive, with what that needs.
-#[derive(Drop)]
+#[derive(Clone, Copy)]
 enum Change {
     OneSensor {
         at: usize,
@@ -60,7 +62,7 @@ enum Change {
 }
 
 // What an event makes of one sensor: what is stored, the answer's number, and whether the condition is another.
-#[derive(Drop)]
+#[derive(Clone, Copy)]
 struct SensorAfter {
     sensor: Sensor,
     number: u8,
@@ -68,7 +70,7 @@ struct SensorAfter {
 }
 
 // What a Set makes of one row, which has settled, the answer's number, and whether the row is lockable.
-#[derive(Drop)]
+#[derive(Clone, Copy)]
 struct RowAfter {
     row: Row,
     number: u8,

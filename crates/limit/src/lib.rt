@@ -1,5 +1,7 @@
 // The value of a list of elements on sixteen sensors of which the first ones are there (document 02, #103): the conditions are filled once,
 // before the walk, and the evaluator takes them and no count of sensors.
+#![tactic(auto)]
+
 ghost use Rattle.std.specs.Prelude.{◌≡◌, take};
 ghost use Rattle.limit.specs.Limit.{tested_value};
 

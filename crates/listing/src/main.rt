@@ -1,4 +1,6 @@
 // Lists the script of standard input. The test runs it on document 01's worked script.
-fn main() {
-    program::run();
+#![tactic(auto)]
+
+fn main(rt: HostRuntime) {
+    program::run(&rt);
 }

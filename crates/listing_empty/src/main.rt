@@ -1,4 +1,6 @@
 // The program on an empty input, which is a bad script and no failure.
-fn main() {
-    program::run();
+#![tactic(auto)]
+
+fn main(rt: HostRuntime) {
+    program::run(&rt);
 }

@@ -1,4 +1,6 @@
 // The program on 65,537 bytes, of which the first 65,536 are a script that reads to its end: it is listed as bad at place 0.
-fn main() {
-    program::run();
+#![tactic(auto)]
+
+fn main(rt: HostRuntime) {
+    program::run(&rt);
 }

@@ -1,10 +1,12 @@
 // The numbers of a script (document 01, 'Script'; document 02, #106): groups of seven bits, low group first, in shortest form, below 2^64.
+#![tactic(auto)]
+
 ghost use Rattle.std.specs.Prelude.{◌≡◌, drop};
 ghost use Rattle.numbers.specs.Groups.{found_in, prefixed, number_at, Writes, ReadsBack};
 ghost use Rattle.numbers.specs.Parts.{groups_from};
 
 // What stands at a place of a script.
-#[derive(Drop)]
+#[derive(Clone, Copy)]
 pub enum Number {
     // its value, and the place after it
     Is(u64, usize),
@@ -77,7 +79,7 @@ pub fn number_at(bytes: &[u8], at: usize) -> Number
 }
 
 // A number in shortest form: so many bytes from the start, and 0 after them.
-#[derive(Drop)]
+#[derive(Clone, Copy)]
 pub struct ShortForm {
     pub bytes: [u8; 10],
     pub count: usize,

@@ -1,4 +1,6 @@
 // How a writer fills its output (document 01, 'Expressions as tokens'; document 02, #102).
+#![tactic(auto)]
+
 ghost use Rattle.std.specs.Prelude.{◌≡◌, ◌+◌, ◌≤◌, length};
 ghost use Rattle.base.specs.Spliced.{spliced};
 ghost use Rattle.output.specs.Filling.{told_in, filled_by, spliced_within};
@@ -6,7 +8,7 @@ ghost use Rattle.output.specs.Filling.{told_in, filled_by, spliced_within};
 use answer::Answer;
 
 // What writing gives: the bytes written, 0 where it is refused.
-#[derive(Drop)]
+#[derive(Clone, Copy)]
 pub struct Written {
     pub answer: Answer,
     pub count: usize,

@@ -1,9 +1,11 @@
 // The phases of a Security Sensor (document 01, 'Sensors'; 002, 4.3.2), what moves them, and the fixed table of phase against cause.
+#![tactic(auto)]
+
 ghost use Rattle.std.specs.Prelude.{◌≡◌};
 ghost use Rattle.phases.specs.Phases.{phase_number, column_of, condition_in, move_of, number_after, level_after};
 
 // The phases of 002, 4.3.2.
-#[derive(Drop)]
+#[derive(Clone, Copy)]
 pub enum Phase {
     // off
     SS0,
@@ -18,7 +20,7 @@ pub enum Phase {
 }
 
 // What moves a sensor. `AtOnce` is with timeout 0, `Waiting` with another timeout.
-#[derive(Drop)]
+#[derive(Clone, Copy)]
 pub enum Cause {
     // the level turns TRUE
     TrueAtOnce,
@@ -39,7 +41,7 @@ pub enum Cause {
 }
 
 // What a cause does to the phase. A phase that is entered anew sets or stops the timer; where the sensor stays, the timer does too.
-#[derive(Drop)]
+#[derive(Clone, Copy)]
 pub enum Move {
     Stays,
     Enters(Phase),

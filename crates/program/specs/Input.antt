@@ -1,15 +1,20 @@
 -- What a program makes of its input.
-use Rattle.std.specs.Prelude.{ℕ, ◌+◌, ◌≤◌, ◌≡◌, Bool, true, false, List, [], length, take, ℤ, pos}
-use Rattle.std.specs.Int.Signed.{lt_z}
+use Rattle.std.specs.Prelude.{ℕ, ◌+◌, ◌≤◌, ◌≡◌, Bool, true, false, min, List, [], length, take, Result, Ok, Err}
+use Rattle.std.specs.Result.{is_err}
 use Rattle.drive.specs.State.{fresh_drive}
 use Rattle.drive.specs.Events.{run_of}
 use Rattle.discovery_answer.specs.Write.{discovery_of}
 use Rattle.script.specs.Whole.{most_script_bytes, Script, accepted, bad, read_script}
 use Rattle.program.specs.declared.Ended.{Ended}
 
--- a read that answers a negative number has failed
-abbrev pub is_failure : ℤ → Bool
-is_failure got = lt_z got (pos 0)
+-- a read that answers an error has failed
+abbrev pub is_failure : {E : Type 0} → Result ℕ E → Bool
+is_failure got = is_err got
+
+-- how many bytes a read moved, of at most so many: none where it failed
+abbrev pub moved : {E : Type 0} → Result ℕ E → ℕ → ℕ
+moved (Ok n) most = min n most
+moved (Err e) most = 0
 
 -- one byte more than a script may have: at most so many bytes of an input are read
 abbrev pub most_read : ℕ

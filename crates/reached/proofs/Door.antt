@@ -15,7 +15,6 @@ use Rattle.base.proofs.Refusals.{own-place}
 use Rattle.base.specs.Rows.{is_row}
 use Rattle.base.proofs.Cases.{and_left, and_right}
 use Rattle.sensor_set.specs.declared.SensorEvent.TheVariants as S
-use Rattle.sensor_set.specs.Columns.{sensor_refusals}
 use Rattle.token_reader.specs.Read.{most_token_bytes, TokenOutcome, read_tokens, elements, expression_in}
 use Rattle.expression.specs.Elements.{elements_in}
 use Rattle.evaluator.specs.Value.{condition_at, value_of}

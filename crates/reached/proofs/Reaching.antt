@@ -105,8 +105,8 @@ formed-fits c tokens e k w row r = record {
 -- ---- other rows, spans or sensors
 
 module _ (d : Drive) (r : Shaped d) where
-  with_rows : (l : List Row) → Table RowFits fresh_row d.band_count l → Shaped (with_rows l d)
-  with_rows l t = record { header = r.header; rows = t; spans = r.spans; apart = r.apart; sensors = r.sensors }
+  with_rows_lem : (l : List Row) → Table RowFits fresh_row d.band_count l → Shaped (with_rows l d)
+  with_rows_lem l t = record { header = r.header; rows = t; spans = r.spans; apart = r.apart; sensors = r.sensors }
 
   with-spans : (l : List Span) → Table (Within d.capacity) no_span d.band_count l → overlapping (band_spans d.band_count l) ≡ false
       → Shaped (with_spans l d)
@@ -118,7 +118,7 @@ module _ (d : Drive) (r : Shaped d) where
   settle-shaped : Shaped (settle_of d)
   unfolding settle_of
   settle-shaped =
-      with_rows _
+      with_rows_lem _
       (map-table RowFits fresh_row (settle_row (conditions_of d)) (settle-fits (conditions_of d)) _ _ r.rows (fresh-settles (conditions_of d)))
 
   fall-shaped : Shaped (fall_of d)
@@ -137,12 +137,12 @@ shape-shaped : (d : Drive) (y : Shape) → Bytes (if_setting y (λ b c tokens. t
     → Shaped d → Shaped (act_by d y)
 shape-shaped d (ticking n) f q r = ticks-keep tick_of Shaped tick-shaped n d r
 shape-shaped d (resetting t) f q r =
-    with-sensors _ (with_rows d r _ (map-table RowFits fresh_row (reset_row t) (reset-fits t) _ _ r.rows (fresh-reset t))) _
+    with-sensors _ (with_rows_lem d r _ (map-table RowFits fresh_row (reset_row t) (reset-fits t) _ _ r.rows (fresh-reset t))) _
     (cond_either (Table SensorFits fresh_sensor d.sensor_count) (eqb t 0) (map power_cycle_of d.sensors) d.sensors
     (λ e. map-table SensorFits fresh_sensor power_cycle_of keeps-fits.cycle _ _ r.sensors fresh-power-cycle) (λ e. r.sensors))
 shape-shaped d (setting b c tokens) f q r =
     let fits : columns_fit c ≡ true = not-false (columns_fit c) (neither (not (columns_fit c)) (ltb most_token_bytes (length tokens)) (q 1)).0 in
-    with_rows d r _
+    with_rows_lem d r _
     (modify-table RowFits fresh_row (formed_from c tokens) (formed-fits c tokens fits f (q 4)) _ _ r.rows b (counted _ b (q 0)).0)
 shape-shaped d (sensing s x) f q r =
     with-sensors d r _ (modify-table SensorFits fresh_sensor (sensor_after x) (keeps-fits.event x) _ _ r.sensors s (counted _ s (q 0)).0)

@@ -1,5 +1,4 @@
 -- The values that a drive's rules ask for: the record `DriveValues`.
-use Prim.Native.Nat.{ℕ}
 use mathlib.Core.Path.{◌≡◌, refl, ap, ◌∙◌}
 use mathlib.Core.List.{List, [], ◌∷◌, map}
 use Rattle.sensor.specs.declared.single.Sensor.{Sensor}
@@ -7,7 +6,7 @@ use Rattle.sensor.proofs.Motion.{fresh-condition}
 use Rattle.expression.specs.Elements.{elements_in}
 use Rattle.evaluator.specs.declared.Evaluation.{Evaluation}
 use Rattle.evaluator.specs.Value.{is_true}
-use Rattle.limit.specs.Limit.{own_conditions, tested_value}
+use Rattle.limit.specs.Limit.{own_conditions}
 use Rattle.limit.proofs.Limit.{own_at, limit-test}
 use Rattle.band.specs.declared.Row.{Row}
 use Rattle.band.specs.Rows.{lock_under, value_in, settle_row}

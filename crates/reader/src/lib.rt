@@ -1,4 +1,6 @@
 // The reader of a script (document 01, 'Script'): it "keeps the script and its cursor as one thing".
+#![tactic(auto)]
+
 ghost use Rattle.std.specs.Prelude.{◌≡◌};
 ghost use Rattle.numbers.specs.Groups.{found_in, number_at};
 ghost use Rattle.event_reader.specs.Fields.{parsed_in, event_at, tokens_at};
@@ -7,7 +9,7 @@ use event_reader::EventRead;
 use numbers::Number;
 
 // A script, and the place in it that is read next.
-#[derive(Drop)]
+#[derive(Clone, Copy)]
 pub struct Reader<'a> {
     pub script: &'a [u8],
     pub at: usize,

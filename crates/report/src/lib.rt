@@ -1,4 +1,6 @@
 // The listing of a script (document 01, 'Listing'): a line for each event, then for each band and each sensor, or the place of what is bad.
+#![tactic(auto)]
+
 mod lines;
 
 ghost use Rattle.std.specs.Prelude.{◌≡◌, ◌≤◌, length, take};

@@ -1,4 +1,6 @@
 // A Set of one row (document 01, 'Bands'; document 02, #104): its answer and the row that it forms, before the bands settle.
+#![tactic(auto)]
+
 ghost use Rattle.std.specs.Prelude.{not, ◌&&◌, ◌||◌, ◌≡◌, ltb, length};
 ghost use Rattle.base.specs.Columns.{named};
 ghost use Rattle.evaluator.specs.Formed.{is_malformed};
@@ -15,7 +17,7 @@ use expression::Expression;
 use token_reader::Tokens;
 
 // What a Set of a row hands back: the row that it forms, or the row as it was where it is refused.
-#[derive(Drop)]
+#[derive(Clone, Copy)]
 pub struct RowAnswer {
     pub answer: Answer,
     pub row: Row,

@@ -1,4 +1,6 @@
 // The run of a script (document 01, 'Script'): the events of a script, one after the other, from the fresh drive of its header.
+#![tactic(auto)]
+
 ghost use Rattle.std.specs.Prelude.{◌≡◌, ◌≤◌, length};
 ghost use Rattle.script.specs.Whole.{most_events, most_script_bytes, read_script};
 ghost use Rattle.reached.specs.Reached.{Reached};
@@ -19,7 +21,7 @@ pub const WHOLE: u64 = script::MOST_BYTES as u64;
 pub const MOST_EVENTS: usize = 32_766;
 
 // What a run hands back: the place is that of a bad script, else 0; the count is that of the events run.
-#[derive(Drop)]
+#[derive(Clone, Copy)]
 pub struct Ran {
     pub answer: Answer,
     pub place: usize,
@@ -28,14 +30,14 @@ pub struct Ran {
 }
 
 // What two runs hand back.
-#[derive(Drop)]
+#[derive(Clone, Copy)]
 pub struct RanTwo {
     pub first: Ran,
     pub second: Ran,
 }
 
 // The drive that a script leaves after its last event: the place is that of a bad script, else 0.
-#[derive(Drop)]
+#[derive(Clone, Copy)]
 pub struct LeftDrive {
     pub answer: Answer,
     pub place: usize,

@@ -1,4 +1,6 @@
 // Scripts (document 01, 'Script'): the header, and the check that a whole script reads to its end.
+#![tactic(auto)]
+
 ghost use Rattle.std.specs.Prelude.{◌≡◌};
 ghost use Rattle.script.specs.Whole.{header_in, header_at, checked_in, check_of};
 
@@ -7,7 +9,7 @@ use event_reader::EventRead;
 use numbers::Number;
 
 // A header in range, and the place after it.
-#[derive(Drop)]
+#[derive(Clone, Copy)]
 pub enum HeaderRead {
     Is {
         capacity: u64,
@@ -19,7 +21,7 @@ pub enum HeaderRead {
 }
 
 // How many events a script has that reads to its end, or the place of what is bad.
-#[derive(Drop)]
+#[derive(Clone, Copy)]
 pub enum Checked {
     Reads(usize),
     BadAt(usize),

@@ -1,1 +1,3 @@
 // Theorems about scripts, written and read. There is no code here.
+
+#![tactic(auto)]

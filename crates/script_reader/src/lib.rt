@@ -1,4 +1,6 @@
 // An accepted script's header and the flat form of its events (document 02, #106).
+#![tactic(auto)]
+
 ghost use Rattle.std.specs.Prelude.{◌≡◌, ◌≤◌, length};
 ghost use Rattle.script.specs.Parts.{events_from};
 ghost use Rattle.script.specs.Whole.{read_script};
@@ -10,7 +12,7 @@ use event_reader::EventRead;
 use script::HeaderRead;
 
 // What a script reads to: its header, and how many numbers and bytes the flat form of its events has; or the place of what is bad in it.
-#[derive(Drop)]
+#[derive(Clone, Copy)]
 pub struct ScriptRead {
     pub answer: Answer,
     pub place: usize,
@@ -22,7 +24,7 @@ pub struct ScriptRead {
 }
 
 // How many numbers and bytes the flat form of events has, or the place of one that does not read.
-#[derive(Drop)]
+#[derive(Clone, Copy)]
 pub enum Flattened {
     Is(usize, usize),
     BadAt(usize),

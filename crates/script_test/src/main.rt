@@ -2,6 +2,8 @@
 // handed over. Where the writer answers 0 there follow how many bytes the script has, those bytes where they are few, and whether the reader hands back
 // the same header, fields and tokens. The reader's answer has its place after it, and where it is 0 there follow the header, the fields and the
 // tokens.
+#![tactic(auto)]
+
 ghost use Rattle.std.specs.Prelude.{◌≤◌, ◌<◌, ◌≡◌, length};
 
 use answer::Answer;
@@ -37,7 +39,7 @@ const WORKED_FIELDS: [u64; 45] = [
 
 const WORKED_TOKENS: [u8; 14] = *b"\xF0\xF2\xA4\x00\x00\x0C\x0E\xA4\x00\x00\x00\x00\xF3\xF1";
 
-#[derive(Drop)]
+#[derive(Clone, Copy)]
 struct Header {
     capacity: u64,
     bands: u64,
@@ -52,35 +54,36 @@ fn usual() -> Header {
     }
 }
 
-fn print(text: &[u8]) {
-    io::write_all(1, text);
+// What is printed is held to the file stdout, which also shows a write that failed.
+fn print(rt: &impl Print, text: &[u8]) {
+    let _ = rt.write_all(text);
 }
 
-fn print_next(n: u64) {
-    print(b" ");
-    io::print_decimal(1, n);
+fn print_next(rt: &impl Print, n: u64) {
+    print(rt, b" ");
+    let _ = rt.print(n);
 }
 
-fn print_answer(answer: Answer) {
-    print_next(answer.number() as u64);
+fn print_answer(rt: &impl Print, answer: Answer) {
+    print_next(rt, answer.number() as u64);
 }
 
-fn print_byte(byte: u8) {
-    io::print_hex(1, byte as u64, 2);
+fn print_byte(rt: &impl Print, byte: u8) {
+    let _ = print!(rt; "{byte:02x}");
 }
 
-fn print_bytes(bytes: &[u8]) {
+fn print_bytes(rt: &impl Print, bytes: &[u8]) {
     let mut i = 0;
     while i < bytes.len() {
-        print_byte(bytes[i]);
+        print_byte(rt, bytes[i]);
         i += 1;
     }
 }
 
-fn print_fields(fields: &[u64]) {
+fn print_fields(rt: &impl Print, fields: &[u64]) {
     let mut i = 0;
     while i < fields.len() {
-        print_next(fields[i]);
+        print_next(rt, fields[i]);
         i += 1;
     }
 }
@@ -120,11 +123,11 @@ fn blank_numbers(out: &[u64], from: usize) -> bool {
     true
 }
 
-fn print_kept(kept: bool) {
+fn print_kept(rt: &impl Print, kept: bool) {
     if kept {
-        print(b" kept");
+        print(rt, b" kept");
     } else {
-        print(b" changed");
+        print(rt, b" changed");
     }
 }
 
@@ -184,27 +187,27 @@ fn reads_back(script: &[u8], header: Header, fields: &[u64], tokens: &[u8]) -> b
     if !same_numbers(first_numbers(&numbers, read.field_count), fields) {
         return false;
     }
-    check::same(first(&bytes, read.token_count), tokens)
+    first(&bytes, read.token_count) == tokens
 }
 
-fn print_script(script: &[u8]) {
-    print_next(script.len() as u64);
+fn print_script(rt: &impl Print, script: &[u8]) {
+    print_next(rt, script.len() as u64);
     if script.len() <= SHOWN {
-        print(b" ");
-        print_bytes(script);
+        print(rt, b" ");
+        print_bytes(rt, script);
     }
 }
 
-fn print_again(again: bool) {
+fn print_again(rt: &impl Print, again: bool) {
     if again {
-        print(b" same");
+        print(rt, b" same");
     } else {
-        print(b" other");
+        print(rt, b" other");
     }
 }
 
 // Writes a script into an output with room, after its title was printed.
-fn write_headed(header: Header, fields: &[u64], tokens: &[u8]) {
+fn write_headed(rt: &impl Print, header: Header, fields: &[u64], tokens: &[u8]) {
     let mut out = blanks();
     let written = script_writer::write(
         header.capacity,
@@ -215,291 +218,311 @@ fn write_headed(header: Header, fields: &[u64], tokens: &[u8]) {
         &mut out,
     );
     let answer = written.answer;
-    print(b":");
-    print_answer(answer);
+    print(rt, b":");
+    print_answer(rt, answer);
     if answer.number() == 0 {
         let script = first(&out, written.count);
-        print_script(script);
-        print_again(reads_back(script, header, fields, tokens));
+        print_script(rt, script);
+        print_again(rt, reads_back(script, header, fields, tokens));
     }
-    print_kept(blank(&out, written.count));
-    print(b"\n");
+    print_kept(rt, blank(&out, written.count));
+    print(rt, b"\n");
 }
 
 // Writes events under the usual header.
-fn write(title: &[u8], fields: &[u64], tokens: &[u8]) {
-    print(title);
-    write_headed(usual(), fields, tokens);
+fn write(rt: &impl Print, title: &[u8], fields: &[u64], tokens: &[u8]) {
+    print(rt, title);
+    write_headed(rt, usual(), fields, tokens);
 }
 
 // Writes a header with no events.
-fn try_header(capacity: u64, bands: u64, sensors: u64) {
-    print(b"header");
-    print_next(capacity);
-    print_next(bands);
-    print_next(sensors);
+fn try_header(rt: &impl Print, capacity: u64, bands: u64, sensors: u64) {
+    print(rt, b"header");
+    print_next(rt, capacity);
+    print_next(rt, bands);
+    print_next(rt, sensors);
     let h = Header {
         capacity,
         bands,
         sensors,
     };
-    write_headed(h, &[], b"");
+    write_headed(rt, h, &[], b"");
 }
 
-fn headers() {
-    try_header(0, 2, 1);
-    try_header(1, 2, 1);
-    try_header(GREATEST, 2, 1);
-    try_header(GREATEST + 1, 2, 1);
-    try_header(MOST, 2, 1);
-    try_header(1_000, 0, 1);
-    try_header(1_000, 1, 1);
-    try_header(1_000, 16, 1);
-    try_header(1_000, 17, 1);
-    try_header(1_000, MOST, 1);
-    try_header(1_000, 2, 0);
-    try_header(1_000, 2, 16);
-    try_header(1_000, 2, 17);
-    try_header(1_000, 2, MOST);
+fn headers(rt: &impl Print) {
+    try_header(rt, 0, 2, 1);
+    try_header(rt, 1, 2, 1);
+    try_header(rt, GREATEST, 2, 1);
+    try_header(rt, GREATEST + 1, 2, 1);
+    try_header(rt, MOST, 2, 1);
+    try_header(rt, 1_000, 0, 1);
+    try_header(rt, 1_000, 1, 1);
+    try_header(rt, 1_000, 16, 1);
+    try_header(rt, 1_000, 17, 1);
+    try_header(rt, 1_000, MOST, 1);
+    try_header(rt, 1_000, 2, 0);
+    try_header(rt, 1_000, 2, 16);
+    try_header(rt, 1_000, 2, 17);
+    try_header(rt, 1_000, 2, MOST);
 }
 
-fn worked() {
-    write(b"document 01's script", &WORKED_FIELDS, &WORKED_TOKENS);
+fn worked(rt: &impl Print) {
+    write(rt, b"document 01's script", &WORKED_FIELDS, &WORKED_TOKENS);
 }
 
 // A reading of sensor 0.
-fn reading(value: u64) {
-    print(b"reading");
-    print_next(value);
-    write_headed(usual(), &[1, 0, value], b"");
+fn reading(rt: &impl Print, value: u64) {
+    print(rt, b"reading");
+    print_next(rt, value);
+    write_headed(rt, usual(), &[1, 0, value], b"");
 }
 
-fn numbers() {
-    reading(0);
-    reading(127);
-    reading(128);
-    reading(16_383);
-    reading(16_384);
-    reading(MOST / 2);
-    reading(MOST / 2 + 1);
-    reading(MOST);
+fn numbers(rt: &impl Print) {
+    reading(rt, 0);
+    reading(rt, 127);
+    reading(rt, 128);
+    reading(rt, 16_383);
+    reading(rt, 16_384);
+    reading(rt, MOST / 2);
+    reading(rt, MOST / 2 + 1);
+    reading(rt, MOST);
 }
 
-fn kinds() {
-    write(b"kind 0", &[0], b"");
-    write(b"kind 0 with three numbers", &[0, 0, 0], b"");
+fn kinds(rt: &impl Print) {
+    write(rt, b"kind 0", &[0], b"");
+    write(rt, b"kind 0 with three numbers", &[0, 0, 0], b"");
 }
 
-fn later_kinds() {
-    write(b"kind 8", &[8], b"");
-    write(b"kind 8 with four numbers", &[8, 0, 0, 0], b"");
-    write(b"the greatest kind", &[MOST, 0, 0, 0], b"");
-    write(b"kind 257", &[257, 0, 0], b"");
+fn later_kinds(rt: &impl Print) {
+    write(rt, b"kind 8", &[8], b"");
+    write(rt, b"kind 8 with four numbers", &[8, 0, 0, 0], b"");
+    write(rt, b"the greatest kind", &[MOST, 0, 0, 0], b"");
+    write(rt, b"kind 257", &[257, 0, 0], b"");
 }
 
 // Each kind with the greatest numbers.
-fn greatest() {
-    write(b"greatest reading", &[1, MOST, MOST], b"");
-    write(b"greatest elapse", &[2, MOST], b"");
-    write(b"greatest reset", &[3, MOST], b"");
-    write(b"greatest geometry", &[6, MOST, MOST, MOST], b"");
-    write(b"greatest transfer", &[7, MOST, MOST, MOST], b"");
+fn greatest(rt: &impl Print) {
+    write(rt, b"greatest reading", &[1, MOST, MOST], b"");
+    write(rt, b"greatest elapse", &[2, MOST], b"");
+    write(rt, b"greatest reset", &[3, MOST], b"");
+    write(rt, b"greatest geometry", &[6, MOST, MOST, MOST], b"");
+    write(rt, b"greatest transfer", &[7, MOST, MOST, MOST], b"");
 }
 
-fn greatest_sets() {
+fn greatest_sets(rt: &impl Print) {
     let row = [4, MOST, 127, MOST, MOST, MOST, MOST, MOST, MOST, MOST];
-    write(b"greatest sensor Set", &row, b"");
+    write(rt, b"greatest sensor Set", &row, b"");
     let row = [5, MOST, 63, MOST, MOST, MOST, MOST, MOST, 2];
-    write(b"greatest band Set", &row, b"\xF0\xF1");
+    write(rt, b"greatest band Set", &row, b"\xF0\xF1");
 }
 
 // A Set of sensor 0 with the same value in each column.
-fn sensor_mask(mask: u64, value: u64) {
-    print(b"sensor Set, mask");
-    print_next(mask);
-    print(b", all");
-    print_next(value);
+fn sensor_mask(rt: &impl Print, mask: u64, value: u64) {
+    print(rt, b"sensor Set, mask");
+    print_next(rt, mask);
+    print(rt, b", all");
+    print_next(rt, value);
     let v = value;
-    write_headed(usual(), &[4, 0, mask, v, v, v, v, v, v, v], b"");
+    write_headed(rt, usual(), &[4, 0, mask, v, v, v, v, v, v, v], b"");
 }
 
 // A Set of band 0 with the same value in each column, and an empty expression.
-fn band_mask(mask: u64, value: u64) {
-    print(b"band Set, mask");
-    print_next(mask);
-    print(b", all");
-    print_next(value);
+fn band_mask(rt: &impl Print, mask: u64, value: u64) {
+    print(rt, b"band Set, mask");
+    print_next(rt, mask);
+    print(rt, b", all");
+    print_next(rt, value);
     let v = value;
-    write_headed(usual(), &[5, 0, mask, v, v, v, v, v, 0], b"");
+    write_headed(rt, usual(), &[5, 0, mask, v, v, v, v, v, 0], b"");
 }
 
-fn masks() {
-    sensor_mask(0, 0);
-    sensor_mask(0, 1);
-    sensor_mask(127, 0);
-    sensor_mask(127, 1);
-    sensor_mask(128, 0);
-    sensor_mask(128, 1);
-    sensor_mask(255, 1);
-    sensor_mask(MOST, 1);
-    band_mask(0, 0);
-    band_mask(0, 1);
-    band_mask(31, 1);
-    band_mask(63, 0);
-    band_mask(63, 1);
-    band_mask(64, 0);
-    band_mask(64, 1);
-    band_mask(127, 1);
-    band_mask(MOST, 1);
+fn masks(rt: &impl Print) {
+    sensor_mask(rt, 0, 0);
+    sensor_mask(rt, 0, 1);
+    sensor_mask(rt, 127, 0);
+    sensor_mask(rt, 127, 1);
+    sensor_mask(rt, 128, 0);
+    sensor_mask(rt, 128, 1);
+    sensor_mask(rt, 255, 1);
+    sensor_mask(rt, MOST, 1);
+    band_mask(rt, 0, 0);
+    band_mask(rt, 0, 1);
+    band_mask(rt, 31, 1);
+    band_mask(rt, 63, 0);
+    band_mask(rt, 63, 1);
+    band_mask(rt, 64, 0);
+    band_mask(rt, 64, 1);
+    band_mask(rt, 127, 1);
+    band_mask(rt, MOST, 1);
 }
 
 // A Set of sensor 0 in which one value is other than 0.
-fn sensor_value(mask: u64, at: usize, value: u64)
+fn sensor_value(rt: &impl Print, mask: u64, at: usize, value: u64)
     requires { at < 10 }
 {
-    print(b"sensor Set, mask");
-    print_next(mask);
-    print(b", number");
-    print_next(at as u64);
-    print(b" is");
-    print_next(value);
+    print(rt, b"sensor Set, mask");
+    print_next(rt, mask);
+    print(rt, b", number");
+    print_next(rt, at as u64);
+    print(rt, b" is");
+    print_next(rt, value);
     let mut row = [4, 0, mask, 0, 0, 0, 0, 0, 0, 0];
     row[at] = value;
-    write_headed(usual(), &row, b"");
+    write_headed(rt, usual(), &row, b"");
 }
 
 // Each column with a mask that names all others.
-fn sensor_values() {
-    sensor_value(126, 3, 1);
-    sensor_value(125, 4, 1);
-    sensor_value(123, 5, 1);
-    sensor_value(119, 6, 1);
-    sensor_value(111, 7, 1);
-    sensor_value(95, 8, 1);
-    sensor_value(63, 9, 1);
-    sensor_value(126, 3, 0);
-    sensor_value(125, 4, 0);
-    sensor_value(123, 5, 0);
-    sensor_value(119, 6, 0);
-    sensor_value(111, 7, 0);
-    sensor_value(95, 8, 0);
-    sensor_value(63, 9, 0);
+fn sensor_values(rt: &impl Print) {
+    sensor_value(rt, 126, 3, 1);
+    sensor_value(rt, 125, 4, 1);
+    sensor_value(rt, 123, 5, 1);
+    sensor_value(rt, 119, 6, 1);
+    sensor_value(rt, 111, 7, 1);
+    sensor_value(rt, 95, 8, 1);
+    sensor_value(rt, 63, 9, 1);
+    sensor_value(rt, 126, 3, 0);
+    sensor_value(rt, 125, 4, 0);
+    sensor_value(rt, 123, 5, 0);
+    sensor_value(rt, 119, 6, 0);
+    sensor_value(rt, 111, 7, 0);
+    sensor_value(rt, 95, 8, 0);
+    sensor_value(rt, 63, 9, 0);
 }
 
 // Each column with a mask that names it alone.
-fn sensor_columns() {
-    sensor_value(1, 3, 1);
-    sensor_value(2, 4, 1);
-    sensor_value(4, 5, 1);
-    sensor_value(8, 6, 1);
-    sensor_value(16, 7, 1);
-    sensor_value(32, 8, 1);
-    sensor_value(64, 9, 1);
+fn sensor_columns(rt: &impl Print) {
+    sensor_value(rt, 1, 3, 1);
+    sensor_value(rt, 2, 4, 1);
+    sensor_value(rt, 4, 5, 1);
+    sensor_value(rt, 8, 6, 1);
+    sensor_value(rt, 16, 7, 1);
+    sensor_value(rt, 32, 8, 1);
+    sensor_value(rt, 64, 9, 1);
 }
 
 // A Set of band 0 in which one value is other than 0, with an empty expression.
-fn band_value(mask: u64, at: usize, value: u64)
+fn band_value(rt: &impl Print, mask: u64, at: usize, value: u64)
     requires { at < 9 }
 {
-    print(b"band Set, mask");
-    print_next(mask);
-    print(b", number");
-    print_next(at as u64);
-    print(b" is");
-    print_next(value);
+    print(rt, b"band Set, mask");
+    print_next(rt, mask);
+    print(rt, b", number");
+    print_next(rt, at as u64);
+    print(rt, b" is");
+    print_next(rt, value);
     let mut row = [5, 0, mask, 0, 0, 0, 0, 0, 0];
     row[at] = value;
-    write_headed(usual(), &row, b"");
+    write_headed(rt, usual(), &row, b"");
 }
 
 // Each column with a mask that names all others, and with one that names it alone.
-fn band_values() {
-    band_value(62, 3, 1);
-    band_value(61, 4, 1);
-    band_value(59, 5, 1);
-    band_value(55, 6, 1);
-    band_value(47, 7, 1);
-    band_value(62, 3, 0);
-    band_value(61, 4, 0);
-    band_value(59, 5, 0);
-    band_value(55, 6, 0);
-    band_value(47, 7, 0);
-    band_value(1, 3, 1);
-    band_value(2, 4, 1);
-    band_value(4, 5, 1);
-    band_value(8, 6, 1);
-    band_value(16, 7, 1);
-    band_value(32, 8, 0);
+fn band_values(rt: &impl Print) {
+    band_value(rt, 62, 3, 1);
+    band_value(rt, 61, 4, 1);
+    band_value(rt, 59, 5, 1);
+    band_value(rt, 55, 6, 1);
+    band_value(rt, 47, 7, 1);
+    band_value(rt, 62, 3, 0);
+    band_value(rt, 61, 4, 0);
+    band_value(rt, 59, 5, 0);
+    band_value(rt, 55, 6, 0);
+    band_value(rt, 47, 7, 0);
+    band_value(rt, 1, 3, 1);
+    band_value(rt, 2, 4, 1);
+    band_value(rt, 4, 5, 1);
+    band_value(rt, 8, 6, 1);
+    band_value(rt, 16, 7, 1);
+    band_value(rt, 32, 8, 0);
 }
 
 // A Set of band 0 whose expression has so many bytes.
-fn expression(title: &[u8], mask: u64, count: u64, tokens: &[u8]) {
-    write(title, &[5, 0, mask, 0, 0, 0, 0, 0, count], tokens);
+fn expression(rt: &impl Print, title: &[u8], mask: u64, count: u64, tokens: &[u8]) {
+    write(rt, title, &[5, 0, mask, 0, 0, 0, 0, 0, count], tokens);
 }
 
-fn expressions() {
-    expression(b"two expression bytes", 32, 2, b"\xF0\xF1");
-    expression(b"no expression byte, named", 32, 0, b"");
-    expression(b"no expression byte, not named", 0, 0, b"");
+fn expressions(rt: &impl Print) {
+    expression(rt, b"two expression bytes", 32, 2, b"\xF0\xF1");
+    expression(rt, b"no expression byte, named", 32, 0, b"");
+    expression(rt, b"no expression byte, not named", 0, 0, b"");
 }
 
-fn expressions_not_named() {
-    expression(b"two expression bytes, not named", 0, 2, b"\xF0\xF1");
-    expression(b"two expression bytes, all else named", 31, 2, b"\xF0\xF1");
+fn expressions_not_named(rt: &impl Print) {
+    expression(rt, b"two expression bytes, not named", 0, 2, b"\xF0\xF1");
+    expression(
+        rt,
+        b"two expression bytes, all else named",
+        31,
+        2,
+        b"\xF0\xF1",
+    );
 }
 
 // As many bytes as there may be, and more.
-fn long_expressions() {
+fn long_expressions(rt: &impl Print) {
     let most = [0xF0; 1_024];
     let more = [0xF0; 1_025];
-    expression(b"1,024 expression bytes", 32, 1_024, &most);
-    expression(b"1,024 expression bytes, not named", 31, 1_024, &most);
-    expression(b"1,025 expression bytes", 32, 1_025, &more);
+    expression(rt, b"1,024 expression bytes", 32, 1_024, &most);
+    expression(rt, b"1,024 expression bytes, not named", 31, 1_024, &most);
+    expression(rt, b"1,025 expression bytes", 32, 1_025, &more);
 }
 
-fn miscounted_expressions() {
+fn miscounted_expressions(rt: &impl Print) {
     let most = [0xF0; 1_024];
     let more = [0xF0; 1_025];
     expression(
+        rt,
         b"1,025 expression bytes said, 1,024 given",
         32,
         1_025,
         &most,
     );
     expression(
+        rt,
         b"1,024 expression bytes said, 1,025 given",
         32,
         1_024,
         &more,
     );
-    expression(b"the greatest count of expression bytes", 32, MOST, &more);
-    expression(b"the greatest count, not named", 0, MOST, b"");
+    expression(
+        rt,
+        b"the greatest count of expression bytes",
+        32,
+        MOST,
+        &more,
+    );
+    expression(rt, b"the greatest count, not named", 0, MOST, b"");
 }
 
 // What the drive refuses when the script runs, and a script holds: values, rows, types and expressions.
-fn refused_values() {
-    write(b"boolean 2", &[5, 0, 1, 2, 0, 0, 0, 0, 0], b"");
-    write(b"enabled 2", &[4, 0, 1, 2, 0, 0, 0, 0, 0, 0], b"");
-    write(b"fraction 1,000", &[4, 0, 4, 0, 0, 1000, 0, 0, 0, 0], b"");
-    write(b"LockOnReset 16", &[5, 0, 16, 0, 0, 0, 0, 16, 0], b"");
+fn refused_values(rt: &impl Print) {
+    write(rt, b"boolean 2", &[5, 0, 1, 2, 0, 0, 0, 0, 0], b"");
+    write(rt, b"enabled 2", &[4, 0, 1, 2, 0, 0, 0, 0, 0, 0], b"");
+    write(
+        rt,
+        b"fraction 1,000",
+        &[4, 0, 4, 0, 0, 1000, 0, 0, 0, 0],
+        b"",
+    );
+    write(rt, b"LockOnReset 16", &[5, 0, 16, 0, 0, 0, 0, 16, 0], b"");
 }
 
-fn refused_rows() {
-    write(b"band 99", &[5, 99, 1, 1, 0, 0, 0, 0, 0], b"");
-    write(b"sensor 99", &[1, 99, 0], b"");
-    write(b"elapse of 2^32", &[2, 4_294_967_296], b"");
+fn refused_rows(rt: &impl Print) {
+    write(rt, b"band 99", &[5, 99, 1, 1, 0, 0, 0, 0, 0], b"");
+    write(rt, b"sensor 99", &[1, 99, 0], b"");
+    write(rt, b"elapse of 2^32", &[2, 4_294_967_296], b"");
 }
 
-fn refused_types() {
-    write(b"reset of type 4", &[3, 4], b"");
-    write(b"geometry of band 0", &[6, 0, 0, 1], b"");
-    write(b"geometry past the end", &[6, 1, 1_001, 1], b"");
-    write(b"transfer in direction 2", &[7, 2, 0, 1], b"");
+fn refused_types(rt: &impl Print) {
+    write(rt, b"reset of type 4", &[3, 4], b"");
+    write(rt, b"geometry of band 0", &[6, 0, 0, 1], b"");
+    write(rt, b"geometry past the end", &[6, 1, 1_001, 1], b"");
+    write(rt, b"transfer in direction 2", &[7, 2, 0, 1], b"");
 }
 
-fn refused_expressions() {
-    expression(b"broken tokens", 32, 3, b"\xF1\xF0\xF0");
+fn refused_expressions(rt: &impl Print) {
+    expression(rt, b"broken tokens", 32, 3, b"\xF1\xF0\xF0");
     expression(
+        rt,
         b"AND alone",
         32,
         10,
@@ -508,86 +531,102 @@ fn refused_expressions() {
 }
 
 // Writes the first numbers of some fields, and prints the answer.
-fn write_part(fields: &[u64], count: usize, tokens: &[u8])
+fn write_part(rt: &impl Print, fields: &[u64], count: usize, tokens: &[u8])
     requires { count ≤ length fields.now }
 {
     let mut out = blanks();
     let written = script_writer::write(1_000, 2, 1, &fields[..count], tokens, &mut out);
     let answer = written.answer;
-    print_answer(answer);
+    print_answer(rt, answer);
 }
 
 // Writes fields that are cut at each place, from none of them to all.
-fn cut(title: &[u8], fields: &[u64], tokens: &[u8]) {
-    print(title);
-    print(b", cut:");
+fn cut(rt: &impl Print, title: &[u8], fields: &[u64], tokens: &[u8]) {
+    print(rt, title);
+    print(rt, b", cut:");
     for count in 0..fields.len() {
-        write_part(fields, count, tokens);
+        write_part(rt, fields, count, tokens);
     }
-    write_part(fields, fields.len(), tokens);
-    print(b"\n");
+    write_part(rt, fields, fields.len(), tokens);
+    print(rt, b"\n");
 }
 
-fn cuts() {
-    cut(b"reading", &[1, 0, 5], b"");
-    cut(b"elapse", &[2, 5], b"");
-    cut(b"reset", &[3, 0], b"");
+fn cuts(rt: &impl Print) {
+    cut(rt, b"reading", &[1, 0, 5], b"");
+    cut(rt, b"elapse", &[2, 5], b"");
+    cut(rt, b"reset", &[3, 0], b"");
 }
 
-fn cut_sensor_sets() {
-    cut(b"sensor Set", &[4, 0, 27, 1, 5, 0, 3, 5, 0, 0], b"");
+fn cut_sensor_sets(rt: &impl Print) {
+    cut(rt, b"sensor Set", &[4, 0, 27, 1, 5, 0, 3, 5, 0, 0], b"");
     cut(
+        rt,
         b"sensor Set of nothing",
         &[4, 0, 0, 0, 0, 0, 0, 0, 0, 0],
         b"",
     );
 }
 
-fn cut_band_sets() {
-    cut(b"band Set", &[5, 0, 33, 1, 0, 0, 0, 0, 2], b"\xF0\xF1");
-    cut(b"band Set of nothing", &[5, 0, 0, 0, 0, 0, 0, 0, 0], b"");
+fn cut_band_sets(rt: &impl Print) {
+    cut(rt, b"band Set", &[5, 0, 33, 1, 0, 0, 0, 0, 2], b"\xF0\xF1");
+    cut(
+        rt,
+        b"band Set of nothing",
+        &[5, 0, 0, 0, 0, 0, 0, 0, 0],
+        b"",
+    );
 }
 
-fn cut_spans() {
-    cut(b"geometry", &[6, 1, 100, 50], b"");
-    cut(b"transfer", &[7, 0, 99, 2], b"");
+fn cut_spans(rt: &impl Print) {
+    cut(rt, b"geometry", &[6, 1, 100, 50], b"");
+    cut(rt, b"transfer", &[7, 0, 99, 2], b"");
 }
 
-fn cut_lists() {
-    cut(b"elapse and reading", &[2, 5, 1, 0, 5], b"");
-    cut(b"document 01's script", &WORKED_FIELDS, &WORKED_TOKENS);
+fn cut_lists(rt: &impl Print) {
+    cut(rt, b"elapse and reading", &[2, 5, 1, 0, 5], b"");
+    cut(rt, b"document 01's script", &WORKED_FIELDS, &WORKED_TOKENS);
 }
 
-fn no_events() {
-    write(b"no event", &[], b"");
-    write(b"no event, a token byte", &[], b"\xF0");
+fn no_events(rt: &impl Print) {
+    write(rt, b"no event", &[], b"");
+    write(rt, b"no event, a token byte", &[], b"\xF0");
 }
 
-fn left_over_after_an_event() {
-    write(b"elapse", &[2, 5], b"");
-    write(b"elapse, a number left over", &[2, 5, 0], b"");
-    write(b"elapse, the start of another left over", &[2, 5, 2], b"");
-    write(b"elapse, a token byte left over", &[2, 5], b"\x00");
+fn left_over_after_an_event(rt: &impl Print) {
+    write(rt, b"elapse", &[2, 5], b"");
+    write(rt, b"elapse, a number left over", &[2, 5, 0], b"");
+    write(
+        rt,
+        b"elapse, the start of another left over",
+        &[2, 5, 2],
+        b"",
+    );
+    write(rt, b"elapse, a token byte left over", &[2, 5], b"\x00");
 }
 
-fn left_over_tokens() {
+fn left_over_tokens(rt: &impl Print) {
     let row = [5, 0, 32, 0, 0, 0, 0, 0, 2];
-    write(b"two token bytes said and given", &row, b"\xF0\xF1");
-    write(b"a token byte left over", &row, b"\xF0\xF1\xF1");
-    write(b"a token byte too few", &row, b"\xF0");
-    write(b"no token byte", &row, b"");
+    write(rt, b"two token bytes said and given", &row, b"\xF0\xF1");
+    write(rt, b"a token byte left over", &row, b"\xF0\xF1\xF1");
+    write(rt, b"a token byte too few", &row, b"\xF0");
+    write(rt, b"no token byte", &row, b"");
 }
 
-fn two_sets() {
+fn two_sets(rt: &impl Print) {
     let rows = [5, 0, 32, 0, 0, 0, 0, 0, 2, 5, 1, 32, 0, 0, 0, 0, 0, 1];
-    write(b"two Sets, three token bytes", &rows, b"\xF0\xF1\xF2");
-    write(b"two Sets, two token bytes", &rows, b"\xF0\xF1");
-    write(b"two Sets, four token bytes", &rows, b"\xF0\xF1\xF2\xF3");
+    write(rt, b"two Sets, three token bytes", &rows, b"\xF0\xF1\xF2");
+    write(rt, b"two Sets, two token bytes", &rows, b"\xF0\xF1");
+    write(
+        rt,
+        b"two Sets, four token bytes",
+        &rows,
+        b"\xF0\xF1\xF2\xF3",
+    );
 }
 
-fn one_bad_event() {
+fn one_bad_event(rt: &impl Print) {
     let rows = [5, 0, 32, 0, 0, 0, 0, 0, 2, 1, 0, 5, 8];
-    write(b"a good event, and one that is not", &rows, b"\xF0\xF1");
+    write(rt, b"a good event, and one that is not", &rows, b"\xF0\xF1");
 }
 
 // Writes into the first bytes of an output.
@@ -598,40 +637,65 @@ fn write_part_of(fields: &[u64], tokens: &[u8], out: &mut [u8], room: usize) -> 
 }
 
 // Writes into an output of so many bytes.
-fn write_within(title: &[u8], fields: &[u64], tokens: &[u8], room: usize)
+fn write_within(rt: &impl Print, title: &[u8], fields: &[u64], tokens: &[u8], room: usize)
     requires { room ≤ 1200 }
 {
     let mut out = blanks();
     let written = write_part_of(fields, tokens, &mut out, room);
     let answer = written.answer;
-    print(title);
-    print(b", output of");
-    print_next(room as u64);
-    print(b":");
-    print_answer(answer);
-    print_next(written.count as u64);
-    print_kept(blank(&out, written.count));
-    print(b"\n");
+    print(rt, title);
+    print(rt, b", output of");
+    print_next(rt, room as u64);
+    print(rt, b":");
+    print_answer(rt, answer);
+    print_next(rt, written.count as u64);
+    print_kept(rt, blank(&out, written.count));
+    print(rt, b"\n");
 }
 
-fn outputs() {
-    write_within(b"document 01's script", &WORKED_FIELDS, &WORKED_TOKENS, 0);
-    write_within(b"document 01's script", &WORKED_FIELDS, &WORKED_TOKENS, 51);
-    write_within(b"document 01's script", &WORKED_FIELDS, &WORKED_TOKENS, 52);
-    write_within(b"document 01's script", &WORKED_FIELDS, &WORKED_TOKENS, 53);
-}
-
-fn outputs_of_a_header() {
-    write_within(b"no event", &[], b"", 0);
-    write_within(b"no event", &[], b"", 3);
-    write_within(b"no event", &[], b"", 4);
-}
-
-fn wrong_and_short() {
-    write_within(b"kind 8", &[8, 0, 0, 0], b"", 0);
-    write_within(b"a number left over", &[2, 5, 2], b"", 3);
-    write_within(b"a token byte left over", &[2, 5], b"\x00", 5);
+fn outputs(rt: &impl Print) {
     write_within(
+        rt,
+        b"document 01's script",
+        &WORKED_FIELDS,
+        &WORKED_TOKENS,
+        0,
+    );
+    write_within(
+        rt,
+        b"document 01's script",
+        &WORKED_FIELDS,
+        &WORKED_TOKENS,
+        51,
+    );
+    write_within(
+        rt,
+        b"document 01's script",
+        &WORKED_FIELDS,
+        &WORKED_TOKENS,
+        52,
+    );
+    write_within(
+        rt,
+        b"document 01's script",
+        &WORKED_FIELDS,
+        &WORKED_TOKENS,
+        53,
+    );
+}
+
+fn outputs_of_a_header(rt: &impl Print) {
+    write_within(rt, b"no event", &[], b"", 0);
+    write_within(rt, b"no event", &[], b"", 3);
+    write_within(rt, b"no event", &[], b"", 4);
+}
+
+fn wrong_and_short(rt: &impl Print) {
+    write_within(rt, b"kind 8", &[8, 0, 0, 0], b"", 0);
+    write_within(rt, b"a number left over", &[2, 5, 2], b"", 3);
+    write_within(rt, b"a token byte left over", &[2, 5], b"\x00", 5);
+    write_within(
+        rt,
         b"a value not named",
         &[4, 0, 0, 1, 0, 0, 0, 0, 0, 0],
         b"",
@@ -671,38 +735,38 @@ fn longest() -> [u8; LONGEST] {
 // Whether an output begins with the longest script.
 fn is_longest(out: &[u8]) -> bool {
     let bytes = longest();
-    check::same(first(out, LONGEST), &bytes)
+    first(out, LONGEST) == bytes.as_slice()
 }
 
 // Writes many events into an output of so many bytes.
-fn write_long(title: &[u8], fields: &[u64], room: usize)
+fn write_long(rt: &impl Print, title: &[u8], fields: &[u64], room: usize)
     requires { room ≤ 65537 }
 {
     let mut out = long_blanks();
     let written = write_part_of(fields, b"", &mut out, room);
     let answer = written.answer;
-    print(title);
-    print(b", output of");
-    print_next(room as u64);
-    print(b":");
-    print_answer(answer);
-    print_next(written.count as u64);
+    print(rt, title);
+    print(rt, b", output of");
+    print_next(rt, room as u64);
+    print(rt, b":");
+    print_answer(rt, answer);
+    print_next(rt, written.count as u64);
     if answer.number() == 0 {
-        print_again(is_longest(&out));
+        print_again(rt, is_longest(&out));
     }
-    print_kept(blank(&out, written.count));
-    print(b"\n");
+    print_kept(rt, blank(&out, written.count));
+    print(rt, b"\n");
 }
 
-fn long_scripts() {
+fn long_scripts(rt: &impl Print) {
     let mut fields = elapses();
-    write_long(b"65,536 bytes", &fields, 65_537);
-    write_long(b"65,536 bytes", &fields, 65_536);
-    write_long(b"65,536 bytes", &fields, 65_535);
+    write_long(rt, b"65,536 bytes", &fields, 65_537);
+    write_long(rt, b"65,536 bytes", &fields, 65_536);
+    write_long(rt, b"65,536 bytes", &fields, 65_535);
     fields[65_531] = 128;
-    write_long(b"65,537 bytes", &fields, 65_537);
-    write_long(b"65,537 bytes", &fields, 65_536);
-    write_long(b"65,537 bytes", &fields, 0);
+    write_long(rt, b"65,537 bytes", &fields, 65_537);
+    write_long(rt, b"65,537 bytes", &fields, 65_536);
+    write_long(rt, b"65,537 bytes", &fields, 0);
 }
 
 // Reads into the first of a page of numbers and of one of bytes.
@@ -718,189 +782,231 @@ fn read_part_of(
     script_reader::read(script, &mut fields[..width], &mut tokens[..room])
 }
 
-fn print_read(read: ScriptRead, fields: &[u64], tokens: &[u8]) {
-    print(b"; header");
-    print_next(read.capacity);
-    print_next(read.bands);
-    print_next(read.sensors);
-    print(b"; fields");
-    print_next(read.field_count as u64);
-    print(b":");
-    print_fields(first_numbers(fields, read.field_count));
-    print(b"; tokens");
-    print_next(read.token_count as u64);
-    print(b": ");
-    print_bytes(first(tokens, read.token_count));
+fn print_read(rt: &impl Print, read: ScriptRead, fields: &[u64], tokens: &[u8]) {
+    print(rt, b"; header");
+    print_next(rt, read.capacity);
+    print_next(rt, read.bands);
+    print_next(rt, read.sensors);
+    print(rt, b"; fields");
+    print_next(rt, read.field_count as u64);
+    print(rt, b":");
+    print_fields(rt, first_numbers(fields, read.field_count));
+    print(rt, b"; tokens");
+    print_next(rt, read.token_count as u64);
+    print(rt, b": ");
+    print_bytes(rt, first(tokens, read.token_count));
 }
 
 // Reads a script into so many numbers and bytes.
-fn read_within(title: &[u8], script: &[u8], width: usize, room: usize)
+fn read_within(rt: &impl Print, title: &[u8], script: &[u8], width: usize, room: usize)
     requires { (width ≤ 64) × (room ≤ 1200) }
 {
     let mut fields = blank_fields();
     let mut tokens = blanks();
     let read = read_part_of(script, &mut fields, width, &mut tokens, room);
     let answer = read.answer;
-    print(b"read ");
-    print(title);
-    print(b":");
-    print_answer(answer);
-    print_next(read.place as u64);
-    print_kept(blank_numbers(&fields, read.field_count));
-    print_kept(blank(&tokens, read.token_count));
+    print(rt, b"read ");
+    print(rt, title);
+    print(rt, b":");
+    print_answer(rt, answer);
+    print_next(rt, read.place as u64);
+    print_kept(rt, blank_numbers(&fields, read.field_count));
+    print_kept(rt, blank(&tokens, read.token_count));
     if answer.number() == 0 {
-        print_read(read, &fields, &tokens);
+        print_read(rt, read, &fields, &tokens);
     }
-    print(b"\n");
+    print(rt, b"\n");
 }
 
-fn read(title: &[u8], script: &[u8]) {
-    read_within(title, script, 64, 1_200);
+fn read(rt: &impl Print, title: &[u8], script: &[u8]) {
+    read_within(rt, title, script, 64, 1_200);
 }
 
-fn good_scripts() {
-    read(b"document 01's script", &WORKED);
-    read(b"no event", b"\xE8\x07\x02\x01");
+fn good_scripts(rt: &impl Print) {
+    read(rt, b"document 01's script", &WORKED);
+    read(rt, b"no event", b"\xE8\x07\x02\x01");
 }
 
-fn good_sensor_sets() {
-    read(b"sensor Set of nothing", b"\xE8\x07\x02\x01\x04\x00\x00");
+fn good_sensor_sets(rt: &impl Print) {
     read(
+        rt,
+        b"sensor Set of nothing",
+        b"\xE8\x07\x02\x01\x04\x00\x00",
+    );
+    read(
+        rt,
         b"sensor Set of all",
         b"\xE8\x07\x02\x01\x04\x00\x7F\x01\x02\x03\x04\x05\x06\x07",
     );
     read(
+        rt,
         b"sensor Set of every second column",
         b"\xE8\x07\x02\x01\x04\x00\x2A\x02\x04\x06",
     );
     read(
+        rt,
         b"sensor Set of the last column",
         b"\xE8\x07\x02\x01\x04\x00\x40\x07",
     );
 }
 
-fn good_band_sets() {
-    read(b"band Set of nothing", b"\xE8\x07\x02\x01\x05\x01\x00");
+fn good_band_sets(rt: &impl Print) {
+    read(rt, b"band Set of nothing", b"\xE8\x07\x02\x01\x05\x01\x00");
     read(
+        rt,
         b"band Set of all",
         b"\xE8\x07\x02\x01\x05\x01\x3F\x01\x02\x03\x04\x05\x02\xF0\xF1",
     );
     read(
+        rt,
         b"band Set of LockOnReset",
         b"\xE8\x07\x02\x01\x05\x01\x10\x07",
     );
     read(
+        rt,
         b"band Set of no expression byte",
         b"\xE8\x07\x02\x01\x05\x01\x20\x00",
     );
 }
 
-fn other_good_scripts() {
+fn other_good_scripts(rt: &impl Print) {
     read(
+        rt,
         b"broken tokens",
         b"\xE8\x07\x02\x01\x05\x01\x20\x03\xF1\xF0\xF0",
     );
     read(
+        rt,
         b"the greatest reading",
         b"\xE8\x07\x02\x01\x01\x00\xFF\xFF\xFF\xFF\xFF\xFF\xFF\xFF\xFF\x01",
     );
     read(
+        rt,
         b"two Sets",
         b"\xE8\x07\x02\x01\x05\x00\x20\x02\xF0\xF1\x05\x01\x20\x01\xF2",
     );
 }
 
-fn bad_headers() {
-    read(b"no byte", b"");
-    read(b"a cut header", b"\xE8\x07\x02");
-    read(b"a cut capacity", b"\xE8");
-    read(b"capacity 0", b"\x00\x02\x01");
-    read(b"capacity 2^48", b"\x80\x80\x80\x80\x80\x80\x40\x02\x01");
+fn bad_headers(rt: &impl Print) {
+    read(rt, b"no byte", b"");
+    read(rt, b"a cut header", b"\xE8\x07\x02");
+    read(rt, b"a cut capacity", b"\xE8");
+    read(rt, b"capacity 0", b"\x00\x02\x01");
     read(
+        rt,
+        b"capacity 2^48",
+        b"\x80\x80\x80\x80\x80\x80\x40\x02\x01",
+    );
+    read(
+        rt,
         b"capacity 2^48 + 1",
         b"\x81\x80\x80\x80\x80\x80\x40\x02\x01",
     );
 }
 
-fn bad_counts() {
-    read(b"bands 0", b"\xE8\x07\x00\x01");
-    read(b"bands 17", b"\xE8\x07\x11\x01");
-    read(b"sensors 16", b"\xE8\x07\x02\x10");
-    read(b"sensors 17", b"\xE8\x07\x02\x11");
-    read(b"a bad header before a bad event", b"\xE8\x07\x02\x11\x08");
+fn bad_counts(rt: &impl Print) {
+    read(rt, b"bands 0", b"\xE8\x07\x00\x01");
+    read(rt, b"bands 17", b"\xE8\x07\x11\x01");
+    read(rt, b"sensors 16", b"\xE8\x07\x02\x10");
+    read(rt, b"sensors 17", b"\xE8\x07\x02\x11");
+    read(
+        rt,
+        b"a bad header before a bad event",
+        b"\xE8\x07\x02\x11\x08",
+    );
 }
 
-fn bad_kinds() {
-    read(b"kind 0", b"\xE8\x07\x02\x01\x00");
-    read(b"kind 8", b"\xE8\x07\x02\x01\x08\x00\x00\x00");
+fn bad_kinds(rt: &impl Print) {
+    read(rt, b"kind 0", b"\xE8\x07\x02\x01\x00");
+    read(rt, b"kind 8", b"\xE8\x07\x02\x01\x08\x00\x00\x00");
     read(
+        rt,
         b"kind 8 after an elapse",
         b"\xE8\x07\x02\x01\x02\x05\x08\x00\x00\x00",
     );
 }
 
-fn bad_numbers() {
-    read(b"a cut reading", b"\xE8\x07\x02\x01\x02\x05\x01\x00");
-    read(b"a cut number", b"\xE8\x07\x02\x01\x02\x05\x02\x80");
+fn bad_numbers(rt: &impl Print) {
+    read(rt, b"a cut reading", b"\xE8\x07\x02\x01\x02\x05\x01\x00");
+    read(rt, b"a cut number", b"\xE8\x07\x02\x01\x02\x05\x02\x80");
     read(
+        rt,
         b"a number not in shortest form",
         b"\xE8\x07\x02\x01\x02\x05\x02\x85\x00",
     );
     read(
+        rt,
         b"a number of 2^64",
         b"\xE8\x07\x02\x01\x02\x80\x80\x80\x80\x80\x80\x80\x80\x80\x02",
     );
 }
 
-fn bad_sets() {
-    read(b"sensor mask 128", b"\xE8\x07\x02\x01\x04\x00\x80\x01");
-    read(b"band mask 64", b"\xE8\x07\x02\x01\x05\x00\x40");
+fn bad_sets(rt: &impl Print) {
+    read(rt, b"sensor mask 128", b"\xE8\x07\x02\x01\x04\x00\x80\x01");
+    read(rt, b"band mask 64", b"\xE8\x07\x02\x01\x05\x00\x40");
     read(
+        rt,
         b"1,025 expression bytes",
         b"\xE8\x07\x02\x01\x05\x00\x20\x81\x08",
     );
     read(
+        rt,
         b"cut expression bytes",
         b"\xE8\x07\x02\x01\x05\x00\x20\x02\xF0",
     );
     read(
+        rt,
         b"kind 8 after document 01's first Set",
         b"\xE8\x07\x02\x01\x04\x00\x1B\x01\x05\x03\x05\x08",
     );
 }
 
-fn overlong() {
+fn overlong(rt: &impl Print) {
     let long = [2; LONG_ROOM];
-    read(b"65,537 bytes", &long);
+    read(rt, b"65,537 bytes", &long);
 }
 
-fn short_slices() {
-    read_within(b"document 01's script into 45 and 14", &WORKED, 45, 14);
-    read_within(b"document 01's script into 44 and 14", &WORKED, 44, 14);
-    read_within(b"document 01's script into 45 and 13", &WORKED, 45, 13);
-    read_within(b"document 01's script into 44 and 13", &WORKED, 44, 13);
+fn short_slices(rt: &impl Print) {
+    read_within(rt, b"document 01's script into 45 and 14", &WORKED, 45, 14);
+    read_within(rt, b"document 01's script into 44 and 14", &WORKED, 44, 14);
+    read_within(rt, b"document 01's script into 45 and 13", &WORKED, 45, 13);
+    read_within(rt, b"document 01's script into 44 and 13", &WORKED, 44, 13);
 }
 
-fn other_slices() {
-    read_within(b"document 01's script into none", &WORKED, 0, 0);
-    read_within(b"document 01's script into 46 and 15", &WORKED, 46, 15);
-    read_within(b"no event into none", b"\xE8\x07\x02\x01", 0, 0);
+fn other_slices(rt: &impl Print) {
+    read_within(rt, b"document 01's script into none", &WORKED, 0, 0);
+    read_within(rt, b"document 01's script into 46 and 15", &WORKED, 46, 15);
+    read_within(rt, b"no event into none", b"\xE8\x07\x02\x01", 0, 0);
 }
 
-fn slices_for_an_elapse() {
-    read_within(b"an elapse into 2 and 0", b"\xE8\x07\x02\x01\x02\x05", 2, 0);
-    read_within(b"an elapse into 1 and 0", b"\xE8\x07\x02\x01\x02\x05", 1, 0);
-}
-
-fn bad_and_short() {
-    read_within(b"a bad header into none", b"\xE8\x07\x02\x11", 0, 0);
+fn slices_for_an_elapse(rt: &impl Print) {
     read_within(
+        rt,
+        b"an elapse into 2 and 0",
+        b"\xE8\x07\x02\x01\x02\x05",
+        2,
+        0,
+    );
+    read_within(
+        rt,
+        b"an elapse into 1 and 0",
+        b"\xE8\x07\x02\x01\x02\x05",
+        1,
+        0,
+    );
+}
+
+fn bad_and_short(rt: &impl Print) {
+    read_within(rt, b"a bad header into none", b"\xE8\x07\x02\x11", 0, 0);
+    read_within(
+        rt,
         b"kind 8 after an elapse into none",
         b"\xE8\x07\x02\x01\x02\x05\x08",
         0,
         0,
     );
     read_within(
+        rt,
         b"kind 8 after an elapse into 2 and 0",
         b"\xE8\x07\x02\x01\x02\x05\x08",
         2,
@@ -909,65 +1015,65 @@ fn bad_and_short() {
 }
 
 // The writer, by header and by event.
-fn write_single_events() {
-    worked();
-    headers();
-    numbers();
-    kinds();
-    later_kinds();
-    greatest();
-    greatest_sets();
-    masks();
-    sensor_values();
-    sensor_columns();
-    band_values();
-    expressions();
-    expressions_not_named();
-    long_expressions();
-    miscounted_expressions();
-    refused_values();
-    refused_rows();
-    refused_types();
-    refused_expressions();
+fn write_single_events(rt: &impl Print) {
+    worked(rt);
+    headers(rt);
+    numbers(rt);
+    kinds(rt);
+    later_kinds(rt);
+    greatest(rt);
+    greatest_sets(rt);
+    masks(rt);
+    sensor_values(rt);
+    sensor_columns(rt);
+    band_values(rt);
+    expressions(rt);
+    expressions_not_named(rt);
+    long_expressions(rt);
+    miscounted_expressions(rt);
+    refused_values(rt);
+    refused_rows(rt);
+    refused_types(rt);
+    refused_expressions(rt);
 }
 
 // The writer, by how much is given and how long the output is.
-fn write_by_length() {
-    cuts();
-    cut_sensor_sets();
-    cut_band_sets();
-    cut_spans();
-    cut_lists();
-    no_events();
-    left_over_after_an_event();
-    left_over_tokens();
-    two_sets();
-    one_bad_event();
-    outputs();
-    outputs_of_a_header();
-    wrong_and_short();
-    long_scripts();
+fn write_by_length(rt: &impl Print) {
+    cuts(rt);
+    cut_sensor_sets(rt);
+    cut_band_sets(rt);
+    cut_spans(rt);
+    cut_lists(rt);
+    no_events(rt);
+    left_over_after_an_event(rt);
+    left_over_tokens(rt);
+    two_sets(rt);
+    one_bad_event(rt);
+    outputs(rt);
+    outputs_of_a_header(rt);
+    wrong_and_short(rt);
+    long_scripts(rt);
 }
 
-fn read_scripts() {
-    good_scripts();
-    good_sensor_sets();
-    good_band_sets();
-    other_good_scripts();
-    bad_headers();
-    bad_counts();
-    bad_kinds();
-    bad_numbers();
-    bad_sets();
-    overlong();
-    short_slices();
-    other_slices();
-    slices_for_an_elapse();
-    bad_and_short();
+fn read_scripts(rt: &impl Print) {
+    good_scripts(rt);
+    good_sensor_sets(rt);
+    good_band_sets(rt);
+    other_good_scripts(rt);
+    bad_headers(rt);
+    bad_counts(rt);
+    bad_kinds(rt);
+    bad_numbers(rt);
+    bad_sets(rt);
+    overlong(rt);
+    short_slices(rt);
+    other_slices(rt);
+    slices_for_an_elapse(rt);
+    bad_and_short(rt);
 }
 
-fn main() {
-    write_single_events();
-    write_by_length();
-    read_scripts();
+fn main(rt: HostRuntime) {
+    write_single_events(&rt);
+    write_by_length(&rt);
+    read_scripts(&rt);
 }

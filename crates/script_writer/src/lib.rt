@@ -1,4 +1,6 @@
 // Writing a script from its header and the flat form of its events (document 02, #106).
+#![tactic(auto)]
+
 ghost use Rattle.std.specs.Prelude.{◌≡◌, ◌+◌, ◌*◌, ◌≤◌, ◌<◌, ◌||◌, eqb, length};
 ghost use Rattle.base.specs.Columns.{named};
 ghost use Rattle.base.specs.Spliced.{spliced};
@@ -17,7 +19,7 @@ use sensor_set::SensorColumns;
 const ROOM: usize = 66_660;
 
 // An event that was put: the place after it, and how many numbers and bytes it took; or one that no script can hold.
-#[derive(Drop)]
+#[derive(Clone, Copy)]
 pub enum EventPut {
     Is {
         place: usize,
@@ -28,7 +30,7 @@ pub enum EventPut {
 }
 
 // All events that were put: the place after them; or some that no script can hold.
-#[derive(Drop)]
+#[derive(Clone, Copy)]
 pub enum EventsPut {
     Is(usize),
     Bad,

@@ -32,10 +32,10 @@ module _ (c : Cause) (s n : Sensor) (l : Bool) (m : Move) (el : l ≡ level_afte
   enters p r e q = q ∙ ap (λ (x : Move). moved_by x n) (sym e) ∙ stepped
 
 -- the phase's number in the listing is that of the move
-pub and-listed : (c : Cause) (s r : Sensor) → r ≡ after_cause c s
-    → (r ≡ after_cause c s) × (phase_number r.phase ≡ number_after (move_of s.phase c) (phase_number s.phase))
+pub listed : (c : Cause) (s r : Sensor) → r ≡ after_cause c s
+    → phase_number r.phase ≡ number_after (move_of s.phase c) (phase_number s.phase)
 unfolding after_cause
-and-listed c s r e = (e, ap (λ (x : Sensor). phase_number x.phase) e ∙ go (move_of s.phase c))
+listed c s r e = ap (λ (x : Sensor). phase_number x.phase) e ∙ go (move_of s.phase c)
   where
     go : (m : Move) → phase_number (moved_by m (with_level (level_after c s.level) s)).phase ≡ number_after m (phase_number s.phase)
     go Stays = refl

@@ -11,7 +11,7 @@ use phases::{Cause, Move, Phase};
 
 // The columns, and then what moves: a sensor is enabled where its phase is not SS0, its timer runs where it is not 0, and its last reading, in
 // thousandths, counts where it has one.
-#[derive(Drop)]
+#[derive(Clone, Copy)]
 pub struct Sensor {
     pub on_threshold: u32,
     pub on_fraction: u32,
@@ -28,7 +28,7 @@ pub struct Sensor {
 }
 
 // A reading's or a Set's answer, and the sensor after it.
-#[derive(Drop)]
+#[derive(Clone, Copy)]
 pub struct SensorAnswer {
     pub answer: Answer,
     pub sensor: Sensor,

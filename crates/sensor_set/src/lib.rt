@@ -1,4 +1,6 @@
 // A Set of one sensor's columns (document 01, 'Sensors'; document 02, #101): its answer and the sensor after it.
+#![tactic(auto)]
+
 ghost use Rattle.std.specs.Prelude.{◌≡◌, true, cond};
 ghost use Rattle.base.specs.Columns.{named, within};
 ghost use Rattle.sensor.specs.Single.{greatest_number, Answers};
@@ -9,7 +11,7 @@ use sensor::{Sensor, SensorAnswer};
 
 // What a Set carries. A column is named by its bit in the mask: 1 enabled, 2 on-threshold, 4 on-fraction, 8 on-timeout,
 // 16 off-threshold, 32 off-fraction, 64 off-timeout. A value that is not named is not looked at.
-#[derive(Drop)]
+#[derive(Clone, Copy)]
 pub struct SensorColumns {
     pub mask: u64,
     pub enabled: u64,
@@ -22,7 +24,7 @@ pub struct SensorColumns {
 }
 
 // An event on one sensor.
-#[derive(Drop)]
+#[derive(Clone, Copy)]
 pub enum SensorEvent {
     Reading { value: u64 },
     Set { columns: SensorColumns },

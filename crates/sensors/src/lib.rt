@@ -1,4 +1,6 @@
 // The sensors of a drive (document 01, 'Sensors'), by value: one of them, and what a tick, a jump over quiet ticks and a power cycle make of all sixteen.
+#![tactic(auto)]
+
 ghost use Rattle.std.specs.Prelude.{◌≡◌, true, map};
 ghost use Rattle.base.specs.Lists.{any, one_if};
 ghost use Rattle.base.specs.Lists.{count as count_of};
@@ -11,14 +13,14 @@ ghost use Rattle.sensors.specs.Parts.{quiet_ticks, turn_of};
 use sensor::Sensor;
 
 // The sensors after some ticks, and the stops among these.
-#[derive(Drop)]
+#[derive(Clone, Copy)]
 pub struct Passed {
     pub sensors: [Sensor; 16],
     pub stops: u64,
 }
 
 // The sensors after one turn of an elapse, the ticks that are left then, and its stops.
-#[derive(Drop)]
+#[derive(Clone, Copy)]
 pub struct Turn {
     pub sensors: [Sensor; 16],
     pub left: u32,

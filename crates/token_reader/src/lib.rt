@@ -1,4 +1,6 @@
 // The token form of an expression (document 01, 'Expressions as tokens'; 002, table 7; 003): reading it.
+#![tactic(auto)]
+
 ghost use Rattle.std.specs.Prelude.{◌≡◌, ◌+◌, ◌*◌, get_or};
 ghost use Rattle.token_reader.specs.Format.{starts_with, is_end, four_bytes, reference_in, operator_in, part_in, width_of};
 ghost use Rattle.token_reader.specs.Read.{Reads, WrittenAgain};
@@ -8,14 +10,14 @@ use answer::Answer;
 use expression::{Element, Expression, Part};
 
 // What reading gives: the expression where the answer is Done, else the empty one.
-#[derive(Drop)]
+#[derive(Clone, Copy)]
 pub struct Tokens {
     pub answer: Answer,
     pub expression: Expression,
 }
 
 // What stands where an element may begin.
-#[derive(Drop)]
+#[derive(Clone, Copy)]
 pub enum Head {
     Is(Part),
     Broken,

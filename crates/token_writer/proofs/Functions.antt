@@ -47,11 +47,6 @@ reads-back codes out w after h z =
     ap read_tokens (done-bytes codes out w after h e).same
     ∙ tokens-written (elements_of codes) (done-few codes out w after h e) (numbers_fit codes (done-fits codes out w after h e))
 
--- both promises of the writer
-pub and-back : (codes out : List ℕ) (w : Written) (after : List ℕ) → Writes codes out w after
-    → Writes codes out w after × ReadsBack (elements_of codes) w after
-and-back codes out w after h = (h, reads-back codes out w after h)
-
 -- elements that fit, written where there is room
 module _ (es : List Element) (out after : List ℕ) (w : Written) (short : length es ≤ 32) (f : AllFit es) (room : needed_for es ≤ length out)
     (h : Writes (codes_of es) out w after) where

@@ -1,4 +1,6 @@
 // The token form of an expression (document 01, 'Expressions as tokens'; 002, table 7; 003): writing it.
+#![tactic(auto)]
+
 ghost use Rattle.std.specs.Prelude.{◌≡◌, true, ◌+◌, ◌≤◌, length};
 ghost use Rattle.base.specs.Spliced.{spliced};
 ghost use Rattle.expression.specs.Elements.{elements_in};

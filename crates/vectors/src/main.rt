@@ -2,6 +2,8 @@
 // listing as document 01 has it, amended by the requests that have landed. Each is also read to its header and the flat form of its events, and written
 // again. At the end, how many came out again byte by byte, how many were refused as bad and how many came out otherwise; and how many there were. 1,000
 // scripts, well formed and damaged, 94 at the limits of the format, and one of the most events.
+#![tactic(auto)]
+
 ghost use Rattle.std.specs.Prelude.{◌≤◌};
 
 use script_reader::ScriptRead;
@@ -21,25 +23,34 @@ fn blank_fields() -> [u64; FIELDS] {
 }
 
 // How many scripts came out again the same, were refused as bad, and came out otherwise.
-#[derive(Drop)]
+#[derive(Clone, Copy)]
 struct Tally {
     same: usize,
     bad: usize,
     other: usize,
 }
 
-fn title(number: usize) {
-    io::write_all(1, b"# ");
-    io::print_decimal(1, number as u64);
-    io::write_all(1, b"\n");
+// What is printed is held to the file stdout, which also shows a write that failed.
+fn print(rt: &impl Print, text: &[u8]) {
+    let _ = rt.write_all(text);
 }
 
-fn case(number: usize, script: &[u8]) {
+fn print_number(rt: &impl Print, n: u64) {
+    let _ = rt.print(n);
+}
+
+fn title(rt: &impl Print, number: usize) {
+    print(rt, b"# ");
+    print_number(rt, number as u64);
+    print(rt, b"\n");
+}
+
+fn case(rt: &impl Print, number: usize, script: &[u8]) {
     let mut page = [0; report::MOST];
     let listed = report::list(script, &mut page);
-    title(number);
+    title(rt, number);
     let text = report::first(&page, listed.count);
-    io::write_all(1, text);
+    print(rt, text);
 }
 
 // The first numbers of a page; all of it where it has no more.
@@ -92,7 +103,7 @@ fn again(script: &[u8], read: ScriptRead, fields: &[u64], tokens: &[u8], out: &m
     if answer.number() != 0 {
         return false;
     }
-    check::same(report::first(out, written.count), script)
+    report::first(out, written.count) == script
 }
 
 // Reads a script, and writes it again where it is accepted.
@@ -110,6 +121,7 @@ fn rewrite(script: &[u8], fields: &mut [u64], tokens: &mut [u8], out: &mut [u8])
 }
 
 fn all_cases(
+    rt: &impl Print,
     input: &[u8],
     count: usize,
     fields: &mut [u64],
@@ -121,7 +133,7 @@ fn all_cases(
     let mut other: usize = 0;
     for number in 0..count {
         let script = cases::case_of(input, number);
-        case(number, script);
+        case(rt, number, script);
         let tally = rewrite(script, fields, tokens, out);
         same += tally.same;
         bad += tally.bad;
@@ -130,28 +142,28 @@ fn all_cases(
     Tally { same, bad, other }
 }
 
-fn print_tally(tally: Tally) {
-    io::print_decimal(1, tally.same as u64);
-    io::write_all(1, b" scripts came out again the same, ");
-    io::print_decimal(1, tally.bad as u64);
-    io::write_all(1, b" were refused with 10, ");
-    io::print_decimal(1, tally.other as u64);
-    io::write_all(1, b" came out otherwise\n");
+fn print_tally(rt: &impl Print, tally: Tally) {
+    print_number(rt, tally.same as u64);
+    print(rt, b" scripts came out again the same, ");
+    print_number(rt, tally.bad as u64);
+    print(rt, b" were refused with 10, ");
+    print_number(rt, tally.other as u64);
+    print(rt, b" came out otherwise\n");
 }
 
 // Runs every case of the input, and says how many there were and what is left over.
-fn run(input: &[u8]) {
+fn run(rt: &(impl Print + Input), input: &[u8]) {
     let held = cases::held(input);
     let mut fields = blank_fields();
     let mut tokens = [0; script::MOST_BYTES];
     let mut out = [0; script::MOST_BYTES];
-    let tally = all_cases(input, held.count, &mut fields, &mut tokens, &mut out);
-    print_tally(tally);
-    cases::print_end(b"vectors", input);
+    let tally = all_cases(rt, input, held.count, &mut fields, &mut tokens, &mut out);
+    print_tally(rt, tally);
+    cases::print_end(rt, b"vectors", input);
 }
 
-fn main() {
+fn main(rt: HostRuntime) {
     let mut space = blank();
-    let n = io::read_full(0, &mut space);
-    run(&space[..n]);
+    let n = cases::read_full(&mut rt.reader(), &mut space);
+    run(&rt, &space[..n]);
 }

@@ -1,0 +1,31 @@
+use Rattle.event_reader.specs.Fields.{sensor_set_at}
+use Rattle.event_reader.proofs.Chains.{chain}
+use Rattle.event_reader.proofs.sensor_set_at.Goals as goal
+
+pub returns-in_default : goal.returns-in_default
+unfolding sensor_set_at
+returns-in_default c = search chain depth 9 fits 4000
+
+pub returns-in_default-number_at : goal.returns-in_default-number_at
+unfolding sensor_set_at
+returns-in_default-number_at c = search chain depth 9 fits 4000
+
+pub returns-then-mask-ge-MASKS : goal.returns-then-mask-ge-MASKS
+unfolding sensor_set_at
+returns-then-mask-ge-MASKS c = search chain depth 9 fits 4000
+
+pub returns-in_default-first_columns_at : goal.returns-in_default-first_columns_at
+unfolding sensor_set_at
+returns-in_default-first_columns_at c = search chain depth 9 fits 4000
+
+pub returns-in_default-column_at : goal.returns-in_default-column_at
+unfolding sensor_set_at
+returns-in_default-column_at c = search chain depth 9 fits 4000
+
+pub returns-in_default-column_at-2 : goal.returns-in_default-column_at-2
+unfolding sensor_set_at
+returns-in_default-column_at-2 c = search chain depth 9 fits 4000
+
+pub returns : goal.returns
+unfolding sensor_set_at
+returns c = search chain depth 9 fits 4000

@@ -1,7 +1,0 @@
-use Rattle.base.proofs.Rows.{taken}
-use borrow.Author.Rules.{rules}
-use Rattle.report.proofs.lines.row_at.Statement.{statement}
-use Rattle.report.proofs.lines.row_at.Tie as tie
-
-pub row-at-spec : {M : Type 1} → statement M
-row-at-spec = tie.close (tie.spec (λ c. search rules) (λ c. search rules) (λ c. search (taken, rules)))
