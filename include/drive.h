@@ -2,7 +2,7 @@
  * drive.h: the functions of the reference drive that programs in other languages link.
  *
  * They are the exported functions of crates/api, and each is proved to do what its comment says, on every value of its parameters: the
- * definitions are in crates/api/specs/Exports.antt. Build the library with `rt staticlib api`, and link target/staticlib/libapi.a and the C
+ * definitions are in crates/api/specs/Exports.antt. Build the library with `rt lib` in crates/api, and link crates/api/out/libapi.a and the C
  * library. "Document 01" is the scope paper, as the requests that have landed amend it (README.md, 'Requests').
  *
  * What a call asks of its caller: a buffer is a pointer and the number of its elements; no pointer is NULL, also where that number is 0; and

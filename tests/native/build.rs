@@ -1,9 +1,9 @@
-//! Links the tests, and nothing else, with the static library that `rt staticlib api` builds. Where it is missing, the tests do not compile.
+//! Links the tests, and nothing else, with the static library that `rt lib` builds in crates/api. Where it is missing, the tests do not compile.
 use std::{env, path::PathBuf};
 
 fn main() {
     let root = PathBuf::from(env::var_os("CARGO_MANIFEST_DIR").unwrap()).join("../..");
-    let library = root.join("target/staticlib/libapi.a");
+    let library = root.join("crates/api/out/libapi.a");
     println!("cargo:rerun-if-changed={}", library.display());
     println!("cargo:rustc-check-cfg=cfg(no_library)");
     if library.is_file() {

@@ -3,7 +3,7 @@
 //! answer, a move of a phase, a kind of damage, something to be seen in a discovery answer or a reason for which no script holds a flat form was
 //! not.
 #[cfg(no_library)]
-compile_error!("target/staticlib/libapi.a is missing: build it with `rt staticlib api`");
+compile_error!("crates/api/out/libapi.a is missing: build it with `rt lib` in crates/api");
 
 mod answers;
 mod coverage;
