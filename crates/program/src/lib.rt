@@ -66,7 +66,7 @@ fn read_from<R: Read>(reader: &mut R, space: &mut [u8], at: usize) -> BytesRead
 
 // Reads until a read moves no byte or the space is full, and never stops before.
 fn read_all<R: Read>(reader: &mut R, space: &mut [u8]) -> BytesRead
-    ensures in_bounds { result.length ≤ length space.new }
+    ensures prefix_len { (result.length ≤ length space.new) × (result.length ≡ length (take result.length space.new)) }
     ensures length_value { result.ended ≡ false → result.length ≡ length space.new }
 {
     let mut at = 0;
