@@ -1,7 +1,7 @@
 // The cases of a test program's input, each after its length in four bytes, low first.
 #![tactic(auto)]
 
-ghost use Rattle.std.specs.Prelude.{◌≡◌, false, ◌+◌, ◌*◌, ◌≤◌, length};
+ghost use Rattle.std.specs.Prelude.{◌≡◌, false, ◌+◌, ◌*◌, ◌≤◌, length, take};
 ghost use Rattle.cases.specs.Cases.{size_at, whole_at, next_at, case_place, case_of, case_count, left_over};
 
 use std::io::Read;
@@ -98,7 +98,7 @@ pub fn held(input: &[u8]) -> Counted
 
 // Reads until the space is full, a read moves no byte or a read fails, and answers how many bytes were put at the space's start.
 pub fn read_full<R: Read>(reader: &mut R, space: &mut [u8]) -> usize
-    ensures { result ≤ length space.new }
+    ensures { (result ≤ length space.new) × (result ≡ length (take result space.new)) }
 {
     let mut done = 0;
     while done < space.len() {
