@@ -1,8 +1,7 @@
--- Document 01, 'The drive and its refusals': the table's columns 'No.' and 'Word'; and what document 02 adds to them.
-use Rattle.std.specs.Prelude.{ℕ}
-use Rattle.answer.specs.declared.Answer.{Answer}
-use Rattle.answer.specs.declared.Answer.TheVariants.{
-  Done,
+-- The table of answers: its numbers and its words.
+use Rattle.std.specs.Prelude.{ℕ, Result, Ok, Err}
+use Rattle.answer.specs.declared.Refusal.{Refusal}
+use Rattle.answer.specs.declared.Refusal.TheVariants.{
   NoRow,
   OutOfRange,
   NotTokens,
@@ -18,9 +17,7 @@ use Rattle.answer.specs.declared.Answer.TheVariants.{
   Malformed,
 }
 
-abbrev pub number_of : Answer → ℕ
--- done
-number_of Done = 0
+abbrev pub number_of : Refusal → ℕ
 -- no row
 number_of NoRow = 1
 -- out of range
@@ -47,3 +44,8 @@ number_of ShortBuffer = 11
 number_of ShortAnswer = 12
 -- #104: "Turned away: 13 malformed"
 number_of Malformed = 13
+
+-- the number of what was answered: done is 0, whatever is handed over with it
+abbrev pub answer_number : {A : Type 0} → Result A Refusal → ℕ
+answer_number (Ok value) = 0
+answer_number (Err refusal) = number_of refusal

@@ -7,7 +7,7 @@ use mathlib.Core.List.{List, [], ◌∷◌}
 use lib.Dec.{eqb, ltb, leb}
 use borrow.Author.Tests.{lt-ltb, le-leb, ltb-true, leb-true, ne_eqb}
 use Rattle.base.specs.Lists.{any}
-use Rattle.base.specs.Refusals.{Refusal, when, applying, order_of}
+use Rattle.base.specs.Refusals.{TableRow, when, applying, order_of}
 use Rattle.base.specs.Rows.{is_row}
 use Rattle.base.proofs.Cases.{and_yes, and_left, and_right, or_yes, or-second}
 use Rattle.sensor_set.specs.Columns.{sensor_refusals}
@@ -20,10 +20,10 @@ use Rattle.api.specs.Exports.{up_to_six, refused_anyway, InRange, LowestAnyway}
 
 -- ---- two lists of refusals with the same numbers: what applies in the first and comes no later than 6 applies in the second
 
-abbrev Passes : List Refusal → List Refusal → Type 0
+abbrev Passes : List TableRow → List TableRow → Type 0
 Passes l m = (n : ℕ) → order_of n ≤ order_of 6 → applying n l ≡ true → applying n m ≡ true
 
-module _ (number : ℕ) (a b : Bool) (l m : List Refusal) (more : Passes l m) where
+module _ (number : ℕ) (a b : Bool) (l m : List TableRow) (more : Passes l m) where
   first : (a ≡ true → b ≡ true) → Passes (when number a ∷ l) (when number b ∷ m)
   unfolding applying any
   first f n h e = go (eqb number n) a f e
@@ -41,11 +41,11 @@ module _ (number : ℕ) (a b : Bool) (l m : List Refusal) (more : Passes l m) wh
       go true z e = absurd (false≢true (sym z))
       go false z e = more n h e
 
-same : (l : List Refusal) → Passes l l
+same : (l : List TableRow) → Passes l l
 same l n h e = e
 
 -- the same test in both
-alike : (number : ℕ) (a : Bool) (l m : List Refusal) → Passes l m → Passes (when number a ∷ l) (when number a ∷ m)
+alike : (number : ℕ) (a : Bool) (l m : List TableRow) → Passes l m → Passes (when number a ∷ l) (when number a ∷ m)
 alike number a l m more = first number a a l m more (λ e. e)
 
 -- ---- what a lower count or a lower capacity refuses besides

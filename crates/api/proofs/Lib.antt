@@ -1,3 +1,2 @@
-pub mod Anyway
 pub mod Telling
-pub mod Scripts
+pub mod Anyway

@@ -9,12 +9,12 @@ use Rattle.token_reader.specs.Read.{TokenOutcome, elements, refusal, read_tokens
 use Rattle.token_writer.specs.Write.{codes_of, elements_of, write_answer}
 use Rattle.drive.specs.declared.Drive.{Drive}
 use Rattle.drive.specs.State.{most_blocks, most_bands, most_sensors, header_fits, fresh_drive}
-use Rattle.drive.specs.Events.{Event, refusals, answer_of, stops_of, event_of, run_of}
+use Rattle.drive.specs.Events.{Event, refusals, answer_of, stops_of, run_of}
 use Rattle.discovery_answer.specs.Write.{discovery_of}
 use Rattle.discovery_answer.specs.Read.{read_answer, shown_in}
 use Rattle.discovery_answer.specs.Answers.{ShowsDrive}
 use Rattle.numbers.specs.Groups.{bad_script}
-use Rattle.event_form.specs.Kinds.{kind_of}
+use Rattle.event_form.specs.Kinds.{event_by}
 use Rattle.event_form.specs.Parts.{Flat}
 use Rattle.event_reader.specs.Fields.{kinds}
 use Rattle.script.specs.Whole.{Script, accepted, bad}
@@ -111,7 +111,7 @@ last_kind = length kinds
 -- 2 "out of range: a field exceeds its range" where there is no such kind, whatever the script
 abbrev pub event_told : Script → ℕ → List ℕ → List ℕ → (stops place : ℕ) → EventTold
 event_told script kind fields tokens stops place =
-    cond (leb 1 kind && leb kind last_kind) (event_on script (event_of (kind_of kind fields) tokens) stops place) (answered 2 stops place)
+    cond (leb 1 kind && leb kind last_kind) (event_on script (event_by kind fields tokens) stops place) (answered 2 stops place)
 
 -- ---- the discovery answer (document 02, #102)
 

@@ -1,12 +1,15 @@
-// The functions that programs in other languages link: numbers and slices of numbers, and every result a number. A result beside the
-// answer is written through a `&mut` of its own, and a refusal leaves what was there.
+//! The functions that programs in other languages link: numbers and slices of numbers, and every result a number. A result beside the
+//! answer is written through a `&mut` of its own, and a refusal leaves what was there.
+// stays: (1) numbers in place of enums, a `&mut` for each result, parameters that travel together: all this is the C interface
 #![tactic(auto)]
 
-ghost use Rattle.std.specs.Prelude.{◌≡◌, ℕ};
-ghost use Rattle.base.specs.Lists.{one_if};
-ghost use Rattle.output.specs.Filling.{told, filled_by};
+ghost use Rattle.std.specs.Prelude.{◌≡◌, ℕ, List, cond, eqb, Ok};
+ghost use Rattle.answer.specs.Numbers.{number_of};
+ghost use Rattle.output.specs.Filling.{told, told_in, filled_by};
 ghost use Rattle.token_reader.specs.Read.{read_tokens};
-ghost use Rattle.drive.specs.Events.{event_of};
+ghost use Rattle.numbers.specs.Groups.{bad_script};
+ghost use Rattle.drive.specs.Events.{event_in};
+ghost use Rattle.script.specs.Errors.{error_number, error_place};
 ghost use Rattle.script.specs.Whole.{read_script};
 ghost use Rattle.event_form.specs.Parts.{events_of};
 ghost use Rattle.script_writer.specs.Write.{script_told};
@@ -24,6 +27,7 @@ ghost use Rattle.api.specs.Exports.{
   fresh_to,
   fresh_told,
   answered,
+  up_to_six,
   refused_anyway,
   refused_event,
   event_on,
@@ -36,40 +40,48 @@ ghost use Rattle.api.specs.Exports.{
   read_leaving,
   ScriptComesOut,
 };
+ghost use Rattle.api.specs.Parts.{anyway_in};
 
-use drive::{Drive, Kind};
+use answer::Refusal;
+use drive::{Drive, Event, Header};
+use event_form::EventKind;
+use script::{BadScript, ScriptError};
 
-// Answers that the calls give or look for themselves.
-const OUT_OF_RANGE: u8 = 2;
+/// Tells how many were written, or why none were.
+fn tell(done: Result<usize, Refusal>, count: &mut usize) -> u8
+    ensures told { (out : List ℕ) → told result count.new out ≡ leaving count.old (told_in done out) }
+    ensures done { result ≡ 0 → done ≡ Ok count.new }
+{
+    match done {
+        Ok(written) => {
+            *count = written;
+            0
+        }
+        Err(refusal) => refusal.number(),
+    }
+}
 
-const PAST_END: u8 = 6;
+/// Tells why a script is refused, and the place of a bad one.
+fn tell_error(error: ScriptError, place: &mut usize) -> u8
+    ensures number { result ≡ error_number error }
+    ensures place { place.new ≡ cond (eqb result bad_script) (error_place error) place.old }
+{
+    if let ScriptError::Bad { place: at } = error {
+        *place = at;
+    }
+    error.number()
+}
 
-const BAD_SCRIPT: u8 = 10;
-
-const MALFORMED: u8 = 13;
-
-const SHORT_BUFFER: u8 = 11;
-
-// The kinds of events are 1 to this one.
-const LAST_KIND: u64 = 7;
-
-// The listing of a script, from the output's start, and its length.
+/// The listing of a script, from the output's start, and its length.
 #[unsafe(no_mangle)]
 pub extern "C" fn drive_list(script: &[u8], out: &mut [u8], length: &mut usize) -> u8
     ensures { told result length.new out.new ≡ leaving length.old (filled_by (listing (read_script script.now)) out.old) }
 {
-    let listed = report::list(script, out);
-    let answer = listed.answer;
-    let number = answer.number();
-    if number != 0 {
-        return number;
-    }
-    *length = listed.count;
-    number
+    tell(report::list(script, out), length)
 }
 
-// The run of a script's first events, at most so many: the answer and the stops of each in the two buffers, and the number of events run;
-// or the place of a bad script.
+/// The run of a script's first events, at most so many: the answer and the stops of each in the two buffers, and the number of events run;
+/// or the place of a bad script.
 #[unsafe(no_mangle)]
 pub extern "C" fn drive_run(
     script: &[u8],
@@ -82,69 +94,54 @@ pub extern "C" fn drive_run(
     ensures { ran_to result place.new count.new answers.new stops.new ≡ run_told place.old count.old (run_script (read_script script.now) most answers.old stops.old) }
 {
     let ran = run::run(script, most, answers, stops);
-    let answer = ran.answer;
-    let number = answer.number();
-    if number == BAD_SCRIPT {
-        *place = ran.place;
-        return number;
+    match ran.events {
+        Ok(events) => {
+            *count = events;
+            0
+        }
+        Err(error) => tell_error(error, place),
     }
-    if number != 0 {
-        return number;
-    }
-    *count = ran.count;
-    number
 }
 
-// Hands numbers over where they fit, and tells how many.
+/// Hands numbers over where they fit, and tells how many.
 fn hand(codes: &[u64], out: &mut [u64], count: &mut usize) -> u8
     ensures { told result count.new out.new ≡ leaving count.old (filled_by codes.now out.old) }
 {
-    let length = codes.len();
-    if out.len() < length {
-        return SHORT_BUFFER;
+    if out.len() < codes.len() {
+        return Refusal::ShortBuffer.number();
     }
-    output::put_numbers(out, 0, codes);
-    *count = length;
+    output::put(out, 0, codes);
+    *count = codes.len();
     0
 }
 
-// The elements that bytes are the token form of, as `tokens_write` takes them, and how many there are.
+/// The elements that bytes are the token form of, as `tokens_write` takes them, and how many there are.
 #[unsafe(no_mangle)]
 pub extern "C" fn tokens_read(bytes: &[u8], out: &mut [u64], count: &mut usize) -> u8
     ensures out_after { told result count.new out.new ≡ leaving count.old (read_into (read_tokens bytes.now) out.old) }
     ensures again { WrittenAgainFrom bytes.now result count.new out.new }
 {
-    let read = token_reader::read(bytes);
-    let answer = read.answer;
-    let given = answer.number();
-    if given != 0 {
-        return given;
+    match token_reader::read(bytes) {
+        Ok(expression) => {
+            let codes = token_writer::codes(&expression.elements);
+            let length = expression.as_slice().len();
+            hand(&codes[..length], out, count)
+        }
+        Err(unread) => unread.number(),
     }
-    let expression = read.expression;
-    let elements = expression.elements;
-    let codes = token_writer::codes(elements);
-    let length = expression.count;
-    hand(&codes[..length], out, count)
 }
 
-// The token form of a list of elements, from the output's start, and its length. A number below 2^32 is a reference to that row, and 2^32
-// plus a code is an operator.
+/// The token form of a list of elements, from the output's start, and its length. A number below 2^32 is a reference to that row, and 2^32
+/// plus a code is an operator.
 #[unsafe(no_mangle)]
 pub extern "C" fn tokens_write(codes: &[u64], out: &mut [u8], count: &mut usize) -> u8
     ensures out_after { told result count.new out.new ≡ leaving count.old (write_into codes.now out.old) }
     ensures back { ReadsBackTo codes.now result count.new out.new }
 {
-    let written = token_writer::write(codes, out);
-    let answer = written.answer;
-    let number = answer.number();
-    if number != 0 {
-        return number;
-    }
-    *count = written.count;
-    number
+    tell(token_writer::write(codes, out), count)
 }
 
-// What the fresh drive of a header counts.
+/// What the fresh drive of a header counts.
 #[unsafe(no_mangle)]
 pub extern "C" fn drive_fresh(
     capacity: u64,
@@ -156,68 +153,82 @@ pub extern "C" fn drive_fresh(
 ) -> u8
     ensures { fresh_to result blocks.new band_count.new sensor_count.new ≡ fresh_told capacity bands sensors }
 {
-    let fresh = Drive::fresh(capacity, bands, sensors);
+    let fresh = Drive::fresh(Header {
+        capacity,
+        bands,
+        sensors,
+    });
     let drive = fresh.drive;
     *blocks = drive.capacity;
     *band_count = drive.band_count;
     *sensor_count = drive.sensor_count;
-    let answer = fresh.answer;
-    answer.number()
+    answer::number(fresh.answer)
 }
 
-// The number that an event gets whatever the script is, 0 where there is none.
-fn refused_anyway(kind: Kind, tokens: &[u8]) -> u8
-    ensures { result ≡ refused_anyway (event_of kind tokens.now) }
+/// Whether a refusal comes no later than a bad script's: the others look at the bands that a run has placed and locked.
+fn is_early(refusal: Refusal) -> bool
+    ensures { result ≡ up_to_six (number_of refusal) }
 {
-    let made = Drive::fresh(Drive::CAPACITY, Drive::BANDS, Drive::SENSORS);
-    let drive = made.drive;
-    let reply = events::apply(drive, kind, tokens);
-    let answer = reply.answer;
-    let number = answer.number();
-    if number == MALFORMED {
-        return number;
-    }
-    if PAST_END < number {
-        return 0;
-    }
-    number
+    matches!(
+        refusal,
+        Refusal::NoRow
+            | Refusal::OutOfRange
+            | Refusal::NotTokens
+            | Refusal::TooLong
+            | Refusal::Global
+            | Refusal::PastEnd
+            | Refusal::Malformed
+    )
 }
 
-// One event where the script is refused at a place: the event's own number, or that of the script and the place.
-fn event_unrun(kind: Kind, tokens: &[u8], answer: u8, at: usize, place: &mut usize) -> u8
-    ensures { (stops : ℕ) → answered result stops place.new ≡ refused_event answer at (event_of kind tokens.now) stops place.old }
+/// The refusal that an event gets whatever the script is: an early one on the greatest drive.
+fn refused_anyway(event: Event<'_>) -> Option<Refusal>
+    ensures { anyway_in result ≡ refused_anyway (event_in event.entry) }
 {
-    let own = refused_anyway(kind, tokens);
-    if own != 0 {
-        return own;
+    let made = Drive::fresh(Header {
+        capacity: Drive::CAPACITY,
+        bands: Drive::BANDS,
+        sensors: Drive::SENSORS,
+    });
+    let mut drive = made.drive;
+    match events::apply(&mut drive, event) {
+        Err(refusal) if is_early(refusal) => Some(refusal),
+        _ => None,
     }
-    *place = at;
-    answer
 }
 
-// One event on the drive that a script leaves.
-fn event_by(script: &[u8], kind: Kind, tokens: &[u8], stops: &mut u64, place: &mut usize) -> u8
-    ensures { answered result stops.new place.new ≡ event_on (read_script script.now) (event_of kind tokens.now) stops.old place.old }
+/// One event where the script is bad: the event's own number, or that of the script and the place.
+fn event_unrun(event: Event<'_>, bad: BadScript, place: &mut usize) -> u8
+    ensures { (stops : ℕ) → answered result stops place.new ≡ refused_event bad_script bad.place (event_in event.entry) stops place.old }
 {
-    let left = run::left(script);
-    let left_answer = left.answer;
-    let refusal = left_answer.number();
-    if refusal != 0 {
-        return event_unrun(kind, tokens, refusal, left.place, place);
+    match refused_anyway(event) {
+        Some(refusal) => refusal.number(),
+        None => {
+            *place = bad.place;
+            Refusal::BadScript.number()
+        }
     }
-    let drive = left.drive;
-    let reply = events::apply(drive, kind, tokens);
-    let answer = reply.answer;
-    let number = answer.number();
-    if number != 0 {
-        return number;
-    }
-    *stops = reply.stops;
-    number
 }
 
-// One event, with any numbers, on the drive that a script leaves: its answer and its stops, or the place of a bad script. The kind is a
-// script's, and so are the fields, save that a Set has a value for each column, named or not; the bytes of an expression go beside them.
+/// One event on the drive that a script leaves.
+fn event_by(script: &[u8], event: Event<'_>, stops: &mut u64, place: &mut usize) -> u8
+    ensures { answered result stops.new place.new ≡ event_on (read_script script.now) (event_in event.entry) stops.old place.old }
+{
+    let mut drive = match run::left(script) {
+        Ok(left) => left,
+        Err(bad) => return event_unrun(event, bad, place),
+    };
+    match events::apply(&mut drive, event) {
+        Ok(given) => {
+            *stops = given;
+            0
+        }
+        Err(refusal) => refusal.number(),
+    }
+}
+
+/// One event, with any numbers, on the drive that a script leaves: its answer and its stops, or the place of a bad script. The kind is a
+/// script's, and so are the fields, save that a Set has a value for each column, named or not; the bytes of an expression go beside them.
 #[unsafe(no_mangle)]
 pub extern "C" fn drive_event(
     script: &[u8],
@@ -229,51 +240,29 @@ pub extern "C" fn drive_event(
 ) -> u8
     ensures { answered result stops.new place.new ≡ event_told (read_script script.now) kind fields.now tokens.now stops.old place.old }
 {
-    if kind < 1 {
-        return OUT_OF_RANGE;
+    match EventKind::try_from(kind) {
+        Ok(known) => event_by(script, known.event_of(fields, tokens), stops, place),
+        Err(refusal) => refusal.number(),
     }
-    if LAST_KIND < kind {
-        return OUT_OF_RANGE;
-    }
-    let event = event_form::kind_of(kind, fields);
-    event_by(script, event, tokens, stops, place)
 }
 
-// The discovery answer of the drive that a script leaves, from the output's start, and its length; or the place of a bad script, which is
-// told where the length would be.
+/// The discovery answer of the drive that a script leaves, from the output's start, and its length; or the place of a bad script, which is
+/// told where the length would be.
 #[unsafe(no_mangle)]
 pub extern "C" fn discovery_write(script: &[u8], out: &mut [u8], length: &mut usize) -> u8
     ensures out_after { told result length.new out.new ≡ discovery_told length.old (read_script script.now) out.old }
     ensures back { ShowsLeft (read_script script.now) result out.new }
 {
-    let left = run::left(script);
-    let left_answer = left.answer;
-    let refusal = left_answer.number();
-    if refusal != 0 {
-        *length = left.place;
-        return refusal;
+    match run::left(script) {
+        Ok(drive) => tell(discovery_answer::write(&drive, out), length),
+        Err(bad) => {
+            *length = bad.place;
+            Refusal::BadScript.number()
+        }
     }
-    let drive = left.drive;
-    let written = discovery_answer::write(drive, out);
-    let answer = written.answer;
-    let number = answer.number();
-    if number != 0 {
-        return number;
-    }
-    *length = written.count;
-    number
 }
 
-fn one_if(b: bool) -> u8
-    ensures { result ≡ one_if b }
-{
-    if b {
-        return 1;
-    }
-    0
-}
-
-// What is shown of a discovery answer: whether each of the two features is there, 1 or 0, and the flags of the Locking feature.
+/// What is shown of a discovery answer: whether each of the two features is there, 1 or 0, and the flags of the Locking feature.
 #[unsafe(no_mangle)]
 pub extern "C" fn discovery_read(
     bytes: &[u8],
@@ -283,22 +272,20 @@ pub extern "C" fn discovery_read(
 ) -> u8
     ensures { shown_to result locking.new ranges.new flags.new ≡ shown_told bytes.now locking.old ranges.old flags.old }
 {
-    let shown = discovery_answer::read(bytes);
-    let answer = shown.answer;
-    let number = answer.number();
-    if number != 0 {
-        return number;
+    match discovery_answer::read(bytes) {
+        Ok(features) => {
+            *locking = u8::from(features.locking);
+            *ranges = u8::from(features.ranges);
+            *flags = features.flags;
+            0
+        }
+        Err(refusal) => refusal.number(),
     }
-    let features = shown.features;
-    *locking = one_if(features.locking);
-    *ranges = one_if(features.ranges);
-    *flags = features.flags;
-    number
 }
 
-// A script from the output's start, and its length: the header, and the events of which fields and tokens are the flat form. In fields each event has
-// its kind and then every field, a Set a value for each column, named or not, and a band Set the number of its expression's bytes; these go, one
-// expression after the other, into tokens.
+/// A script from the output's start, and its length: the header, and the events of which fields and tokens are the flat form. In fields each event has
+/// its kind and then every field, a Set a value for each column, named or not, and a band Set the number of its expression's bytes; these go, one
+/// expression after the other, into tokens.
 #[unsafe(no_mangle)]
 pub extern "C" fn script_write(
     capacity: u64,
@@ -312,18 +299,16 @@ pub extern "C" fn script_write(
     ensures out_after { told result length.new out.new ≡ leaving length.old (script_told capacity bands sensors (events_of fields.now tokens.now) out.old) }
     ensures back { ScriptReadsTo capacity bands sensors (events_of fields.now tokens.now) result length.new out.new }
 {
-    let written = script_writer::write(capacity, bands, sensors, fields, tokens, out);
-    let answer = written.answer;
-    let number = answer.number();
-    if number != 0 {
-        return number;
-    }
-    *length = written.count;
-    number
+    let header = Header {
+        capacity,
+        bands,
+        sensors,
+    };
+    tell(script_writer::write(header, fields, tokens, out), length)
 }
 
-// The header of a script, and the flat form of its events from the start of fields and tokens, with how many numbers and bytes it has; or the place of
-// a bad script.
+/// The header of a script, and the flat form of its events from the start of fields and tokens, with how many numbers and bytes it has; or the place of
+/// a bad script.
 #[unsafe(no_mangle)]
 pub extern "C" fn script_read(
     script: &[u8],
@@ -339,20 +324,16 @@ pub extern "C" fn script_read(
     ensures tokens_after { read_to result place.new capacity.new bands.new sensors.new field_count.new token_count.new fields.new tokens.new ≡ read_leaving place.old capacity.old bands.old sensors.old field_count.old token_count.old (flat_told (read_script script.now) fields.old tokens.old) }
     ensures again { ScriptComesOut script.now result capacity.new bands.new sensors.new field_count.new token_count.new fields.new tokens.new }
 {
-    let read = script_reader::read(script, fields, tokens);
-    let answer = read.answer;
-    let number = answer.number();
-    if number == BAD_SCRIPT {
-        *place = read.place;
-        return number;
+    match script_reader::read(script, fields, tokens) {
+        Ok(read) => {
+            let header = read.header;
+            *capacity = header.capacity;
+            *bands = header.bands;
+            *sensors = header.sensors;
+            *field_count = read.fields;
+            *token_count = read.tokens;
+            0
+        }
+        Err(unread) => tell_error(unread, place),
     }
-    if number != 0 {
-        return number;
-    }
-    *capacity = read.capacity;
-    *bands = read.bands;
-    *sensors = read.sensors;
-    *field_count = read.field_count;
-    *token_count = read.token_count;
-    number
 }

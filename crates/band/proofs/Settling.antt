@@ -4,29 +4,33 @@ use Prim.Native.Nat.{ℕ, zero, suc, ◌<◌}
 use native.Mathlib.Omega.{arith}
 use mathlib.Core.Bool.{Bool, true, false, not, cond, ◌&&◌, ◌||◌, false≢true}
 use mathlib.Core.List.{List}
-use Rattle.base.specs.Columns.{named}
-use Rattle.base.proofs.Cases.{cond-true, neither}
+use Rattle.std.specs.Prelude.{Some}
+use Rattle.base.proofs.Cases.{neither}
 use Rattle.base.proofs.Columns.{named_none}
 use Rattle.evaluator.specs.declared.Evaluation.{Evaluation}
 use Rattle.evaluator.specs.Value.{is_true}
-use Rattle.band.specs.declared.Side.{Side}
 use Rattle.band.specs.declared.Side.TheVariants.{Read, Write}
 use Rattle.band.specs.declared.Row.{Row}
-use Rattle.band.specs.Rows.{last_reset_type, fresh_row, closed_on, value_in, with_locked, lock_under, settle_row, reset_bit, in_set, reset_row}
+use Rattle.band.specs.Rows.{last_reset_type, fresh_row, value_in, with_locked, lock_under, settle_row, in_set, reset_row}
 use Rattle.band.specs.Parts.{lockable_on, is_lockable, locks_by}
 
--- ---- what the code's arms come to
+-- ---- what settling and a reset come to, by the tests of the code
 
-pub settled : (cs : List Bool) (row r : Row) (v : Evaluation) (t : Bool) → v ≡ value_in cs row → t ≡ is_true v → r ≡ lock_under t row
+pub settled : (cs : List Bool) (row r : Row) (v : Evaluation) (t : Bool) → v ≡ value_in cs row → t ≡ is_true v → t ≡ true → r ≡ lock_under true row
     → r ≡ settle_row cs row
 unfolding settle_row
-settled cs row r v t e p q = q ∙ ap (λ (x : Bool). lock_under x row) (p ∙ ap is_true e)
+settled cs row r v t p e h q = q ∙ ap (λ (x : Bool). lock_under x row) (sym h ∙ e ∙ ap is_true p)
 
--- a side that is not lockable stays as it is
+-- a side stays as it is where it is not lockable, and where the value is not TRUE
 steady : (locked enabled v : Bool) → (enabled && not locked) ≡ false → locked ≡ (locked || (enabled && v))
 steady true enabled v e = refl
 steady false true v e = absurd (false≢true (sym e))
 steady false false v e = refl
+
+unlocked : (locked enabled : Bool) → locked ≡ (locked || (enabled && false))
+unlocked true enabled = refl
+unlocked false true = refl
+unlocked false false = refl
 
 -- a row with no lockable side stays as it is
 steady-row : (v : Bool) (row : Row) → is_lockable row ≡ false → row ≡ lock_under v row
@@ -40,46 +44,28 @@ pub not-lockable : (cs : List Bool) (row : Row) (t : Bool) → t ≡ is_lockable
 unfolding settle_row
 not-lockable cs row t p e = steady-row (is_true (value_in cs row)) row (sym p ∙ e)
 
-pub reset-locks : (type : ℕ) (row r : Row) (t : Bool) → t ≡ in_set row.lock_on_reset type → t ≡ true → r ≡ lock_under true row
-    → r ≡ reset_row type row
-unfolding reset_row
-reset-locks type row r t p e q = cond-true (in_set row.lock_on_reset type) _ _ _ (sym p ∙ e) q
+pub not_true : (cs : List Bool) (row : Row) (v : Evaluation) (t : Bool) → v ≡ value_in cs row → t ≡ is_true v → t ≡ false → row ≡ settle_row cs row
+unfolding settle_row
+not_true cs row v t p e h =
+    ap₂ (λ (a b : Bool). with_locked a b row)
+    (unlocked row.read_locked row.read_lock_enabled)
+    (unlocked row.write_locked row.write_lock_enabled)
+    ∙ ap (λ (x : Bool). lock_under x row) (sym h ∙ e ∙ ap is_true p)
 
--- what is no type has no bit
-pub no-bit : (type : ℕ) → (type ≡ 0 → ⊥) → (type ≡ 1 → ⊥) → (type ≡ 2 → ⊥) → (type ≡ 3 → ⊥) → 0 ≡ reset_bit type
-no-bit zero a b c e = absurd (a refl)
-no-bit (suc zero) a b c e = absurd (b refl)
-no-bit (suc (suc zero)) a b c e = absurd (c refl)
-no-bit (suc (suc (suc zero))) a b c e = absurd (e refl)
-no-bit (suc (suc (suc (suc type)))) a b c e = refl
-
--- a set holds a type where it has the type's bit
-pub by_bit : (set type bit : ℕ) (t : Bool) → bit ≡ reset_bit type → t ≡ named bit set → t ≡ in_set set type
-by_bit set type bit t e q = q ∙ ap (λ (b : ℕ). named b set) e
+pub ruleset settling = (settled, not-lockable, not_true)
 
 -- a type above the last is in no set
 pub past-types : (set type : ℕ) → last_reset_type < type → false ≡ in_set set type
-past-types set type h =
-    named_none set (reset_bit type)
-    (sym (no-bit type (λ e. omega (arith, h, e)) (λ e. omega (arith, h, e)) (λ e. omega (arith, h, e)) (λ e. omega (arith, h, e))))
-
-pub closed-read : (row : Row) (side : Side) (t : Bool) → side ≡ Read → t ≡ (row.read_lock_enabled && row.read_locked) → t ≡ closed_on side row
-closed-read row side t e q = q ∙ ap (λ (s : Side). closed_on s row) (sym e)
-
-pub closed-write : (row : Row) (side : Side) (t : Bool) → side ≡ Write → t ≡ (row.write_lock_enabled && row.write_locked) → t ≡ closed_on side row
-closed-write row side t e q = q ∙ ap (λ (s : Side). closed_on s row) (sym e)
-
-pub set-locks : (set type : ℕ) (v t : Bool) → t ≡ in_set set type → t ≡ true → true ≡ (in_set set type || v)
-set-locks set type v t p e = ap (λ (x : Bool). x || v) (sym (sym p ∙ e))
-
-pub value-locks : (set type : ℕ) (v w : Evaluation) (u t : Bool) → t ≡ in_set set type → t ≡ false → w ≡ v → u ≡ is_true w
-    → u ≡ (in_set set type || is_true v)
-value-locks set type v w u t p e q k = k ∙ ap is_true q ∙ ap (λ (x : Bool). x || is_true v) (sym (sym p ∙ e))
+past-types set zero h = absurd (omega (arith, h))
+past-types set (suc zero) h = absurd (omega (arith, h))
+past-types set (suc (suc zero)) h = absurd (omega (arith, h))
+past-types set (suc (suc (suc zero))) h = absurd (omega (arith, h))
+past-types set (suc (suc (suc (suc type)))) h = named_none set 0 refl
 
 -- ---- laws for the layers above
 
 -- a reset and then settling: each enabled side is locked where the type is in the row's set or the expression is TRUE
-pub reset-settle : (cs : List Bool) (type : ℕ) (row : Row) → settle_row cs (reset_row type row) ≡ lock_under (locks_by cs type row) row
+pub reset-settle : (cs : List Bool) (type : ℕ) (row : Row) → settle_row cs (reset_row type row) ≡ lock_under (locks_by cs (Some type) row) row
 unfolding settle_row reset_row
 reset-settle cs type row = go (in_set row.lock_on_reset type)
   where

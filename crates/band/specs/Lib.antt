@@ -1,3 +1,4 @@
 pub mod Rows
 pub mod Resets
 pub mod Parts
+pub mod Directions

@@ -1,5 +1,5 @@
 -- Which rows settling or a reset can change, as the code looks at it before it evaluates an expression.
-use Rattle.std.specs.Prelude.{ℕ, Bool, not, ◌&&◌, ◌||◌, List}
+use Rattle.std.specs.Prelude.{ℕ, Bool, false, not, ◌&&◌, ◌||◌, List, Option, Some, None}
 use Rattle.evaluator.specs.Value.{is_true}
 use Rattle.band.specs.declared.Side.{Side}
 use Rattle.band.specs.declared.Side.TheVariants.{Read, Write}
@@ -14,6 +14,11 @@ lockable_on side row = enabled_on side row && not (locked_on side row)
 abbrev pub is_lockable : Row → Bool
 is_lockable row = lockable_on Read row || lockable_on Write row
 
--- a reset of a type and then settling lock what is enabled: where the set has the type, or under a TRUE expression
-abbrev pub locks_by : List Bool → ℕ → Row → Bool
-locks_by conditions type row = in_set row.lock_on_reset type || is_true (value_in conditions row)
+-- the set has the type of the reset, where there is one
+abbrev pub has_reset : ℕ → Option ℕ → Bool
+has_reset set None = false
+has_reset set (Some type) = in_set set type
+
+-- a reset of a type, where there is one, and then settling lock what is enabled: where the set has the type, or under a TRUE expression
+abbrev pub locks_by : List Bool → Option ℕ → Row → Bool
+locks_by conditions reset row = has_reset row.lock_on_reset reset || is_true (value_in conditions row)

@@ -5,6 +5,7 @@ use mathlib.Core.List.{List, [], ◌∷◌, map}
 use Prim.Native.Nat.{ℕ}
 use Rattle.base.specs.Lists.{any}
 use Rattle.base.proofs.Cases.{neither}
+use Rattle.base.proofs.Loops.{map-begin, map-again, map-done, fill-begin, fill_done}
 use Rattle.band.specs.declared.Row.{Row}
 use Rattle.band.specs.Rows.{settle_row, reset_row}
 use Rattle.band.specs.Parts.{is_lockable}
@@ -24,3 +25,6 @@ settle-steady conditions = all-steady (settle_row conditions) (λ row e. sym (no
 
 pub reset-steady : (type : ℕ) (rows : List Row) → any is_lockable rows ≡ false → map (reset_row type) rows ≡ rows
 reset-steady type = all-steady (reset_row type) (steady-reset type)
+
+-- the start, a turn and the end of a loop over the sixteen
+pub ruleset loops = (map-begin, map-again, map-done, fill-begin, fill_done)

@@ -4,7 +4,7 @@ use Prim.Native.Nat.div
 use Prim.Native.Nat.{ℕ, zero, suc, ◌%◌, ◌≤◌}
 use mathlib.Core.Bool.{Bool, true, false, cond, ◌&&◌, false≢true}
 use mathlib.Core.List.{List, [], ◌∷◌}
-use lib.Dec.{eqb, leb}
+use lib.Dec.{eqb}
 use lib.ListN.{get_or}
 use borrow.Author.Tests.{leb-true}
 use Rattle.base.specs.Columns.{named, within}
@@ -19,15 +19,6 @@ named-fits most v t false h p e = absurd (false≢true (sym p ∙ e))
 pub stored-within : (most : ℕ) (n : Bool) (new old : ℕ) → within most n new ≡ true → old ≤ most → cond n new old ≤ most
 stored-within most true new old e h = leb-true new most e
 stored-within most false new old e h = h
-
--- the range test, where the mask names the column and where it does not
-pub within-named : (most v : ℕ) (t n : Bool) → t ≡ n → t ≡ true → leb v most ≡ within most n v
-within-named most v t true p e = refl
-within-named most v t false p e = absurd (false≢true (sym p ∙ e))
-
-pub within-free : (most v : ℕ) (t n : Bool) → t ≡ n → t ≡ false → true ≡ within most n v
-within-free most v t true p e = absurd (false≢true (sym e ∙ p))
-within-free most v t false p e = refl
 
 -- no column has the bit 0
 pub named_none : (mask bit : ℕ) → bit ≡ 0 → false ≡ named bit mask

@@ -1,11 +1,11 @@
 -- Laws of lists that loops over arrays rest on.
-use mathlib.Core.Path.{◌≡◌, refl, sym, ap, ◌∙◌}
+use mathlib.Core.Path.{◌≡◌, refl, sym, ap}
 use Prim.Native.Nat.{ℕ, zero, suc, ◌+◌, ◌≤◌, ◌<◌}
 use native.Mathlib.Numerals.{add-one}
 use native.Mathlib.Omega.{arith}
 use mathlib.Core.Bool.{Bool, true, false, cond, ◌||◌, false≢true}
 use mathlib.Core.List.{List, [], ◌∷◌, map}
-use lib.ListN.{length, get_or, set, drop, replicate, length-map}
+use lib.ListN.{length, get_or, set, drop, replicate}
 use lib.Seq.{drop-cons}
 use Rattle.base.specs.Lists.{one_if, count}
 
@@ -37,10 +37,6 @@ module _ {A : Type 0} (f : A → A) where
   map_to-all zero (x ∷ l) h = absurd (omega arith)
   map_to-all (suc i) [] h = refl
   map_to-all (suc i) (x ∷ l) h = ap {B = List A} (λ r. f x ∷ r) (map_to-all i l (omega arith))
-
--- the length of an array of structs: what the checker knows is the length of the list's image
-pub unmapped {ℓ} : {A : Type 0} {B : Type ℓ} (f : A → B) (l : List A) (n : ℕ) → length (map f l) ≡ n → length l ≡ n
-unmapped f l n e = sym (length-map l f) ∙ e
 
 -- an element stored where it stands
 pub set_same : {A : Type 0} (l : List A) (i : ℕ) (d : A) → set l i (get_or l i d) ≡ l

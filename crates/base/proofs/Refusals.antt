@@ -7,17 +7,17 @@ use mathlib.Core.List.{List, [], ◌∷◌}
 use lib.Dec.{eqb, leb, ltb}
 use borrow.Author.Tests.{le-leb, leb-true, ltb-true, eq-eqb, ne_eqb, eqb-true}
 use Rattle.base.specs.Lists.{any}
-use Rattle.base.specs.Refusals.{Refusal, first_of, applying, order_of, Order, LowestOf}
+use Rattle.base.specs.Refusals.{TableRow, first_of, applying, order_of, Order, LowestOf}
 use Rattle.base.proofs.Cases.{cond-false, and_yes, and_left, and_right, or_yes, or-second}
 
 -- the i-th applies
-abbrev pub applies_at : List Refusal → ℕ → Bool
+abbrev pub applies_at : List TableRow → ℕ → Bool
 applies_at [] i = false
 applies_at (r ∷ l) zero = r.applies
 applies_at (r ∷ l) (suc i) = applies_at l i
 
 -- every number is from 1 on and below k
-abbrev pub numbers_below : ℕ → List Refusal → Bool
+abbrev pub numbers_below : ℕ → List TableRow → Bool
 numbers_below k [] = true
 numbers_below k (r ∷ l) = (ltb 0 r.number && ltb r.number k) && numbers_below k l
 
@@ -26,12 +26,12 @@ abbrev pub past_events : ℕ
 past_events = 14
 
 -- every number comes after the one before it, from the place k on
-abbrev pub rising_from : ℕ → List Refusal → Bool
+abbrev pub rising_from : ℕ → List TableRow → Bool
 rising_from k [] = true
 rising_from k (r ∷ l) = leb k (order_of r.number) && rising_from (suc (order_of r.number)) l
 
 -- of what is answered 0 nothing applies
-pub none-applies : (k : ℕ) (l : List Refusal) → numbers_below k l ≡ true → first_of l ≡ 0 → (i : ℕ) → applies_at l i ≡ false
+pub none-applies : (k : ℕ) (l : List TableRow) → numbers_below k l ≡ true → first_of l ≡ 0 → (i : ℕ) → applies_at l i ≡ false
 none-applies k [] p e i = refl
 none-applies k (r ∷ l) p e i =
     go r.applies refl e (λ e i. none-applies k l (and_right (ltb 0 r.number && ltb r.number k) _ p) e i) i
@@ -44,7 +44,7 @@ none-applies k (r ∷ l) p e i =
     go false q e more (suc i) = more e i
 
 -- an answer is below what the numbers are below
-pub first_below : (k : ℕ) (l : List Refusal) → 0 < k → numbers_below k l ≡ true → first_of l < k
+pub first_below : (k : ℕ) (l : List TableRow) → 0 < k → numbers_below k l ≡ true → first_of l < k
 first_below k [] h p = h
 first_below k (r ∷ l) h p = go r.applies (first_below k l h (and_right (ltb 0 r.number && ltb r.number k) _ p))
   where
@@ -73,7 +73,7 @@ not_first zero h = absurd (omega (arith, h))
 not_first (suc n) h = omega arith
 
 -- what applies comes no sooner than the first number
-from_first : (k : ℕ) (l : List Refusal) → rising_from k l ≡ true → (n : ℕ) → applying n l ≡ true → k ≤ order_of n
+from_first : (k : ℕ) (l : List TableRow) → rising_from k l ≡ true → (n : ℕ) → applying n l ≡ true → k ≤ order_of n
 unfolding applying any
 from_first k [] p n e = absurd (false≢true e)
 from_first k (r ∷ l) p n e =
@@ -87,7 +87,7 @@ from_first k (r ∷ l) p n e =
     go true q e more = omega (arith, low, ap order_of (eqb-true r.number n q))
     go false q e more = omega (arith, low, more e)
 
-pub rising-lowest : (k : ℕ) (l : List Refusal) → 1 ≤ k → rising_from k l ≡ true → LowestOf l (first_of l)
+pub rising-lowest : (k : ℕ) (l : List TableRow) → 1 ≤ k → rising_from k l ≡ true → LowestOf l (first_of l)
 unfolding applying any
 rising-lowest k [] h p = record { lowest = λ n e. absurd (false≢true e); given = λ g. absurd (omega (arith, g)) }
 rising-lowest k (r ∷ l) h p =

@@ -3,11 +3,11 @@ use mathlib.Core.Path.{◌≡◌, refl, sym, ap, ◌∙◌}
 use mathlib.Core.Logic.{◌≢◌}
 use Prim.Native.Nat.{ℕ, zero, suc, ◌<◌, ◌≤◌}
 use native.Mathlib.Omega.{arith}
-use mathlib.Core.Bool.{Bool, true, false, not, ◌&&◌, false≢true}
+use mathlib.Core.Bool.{Bool, true, false, ◌&&◌, false≢true}
 use mathlib.Core.List.{List, [], ◌∷◌, map}
 use lib.Dec.{ltb}
-use lib.ListN.{length, get_or, set, get_or-eq_default}
-use borrow.Author.Tests.{lt-ltb, le-ltb, ltb-true, not-false}
+use lib.ListN.{length, get_or, set}
+use borrow.Author.Tests.{lt-ltb, le-ltb, ltb-true}
 use Rattle.base.specs.Rows.{is_row, modify, Takes}
 use Rattle.base.proofs.Cases.{and_yes, and_no, and_left, and_right}
 
@@ -27,13 +27,6 @@ is-row count i h k = sym (and_yes _ _ _ (lt-ltb _ _ h) (sym (lt-ltb _ _ k)))
 pub row_is : (count i : ℕ) → is_row count i ≡ true → (i < count) × (i < 16)
 row_is count i e = (ltb-true i count (and_left (ltb i count) (ltb i 16) e), ltb-true i 16 (and_right (ltb i count) (ltb i 16) e))
 
--- a row that a call found to be there, and its place
-pub row-there : (count i : ℕ) (t : Bool) → t ≡ not (is_row count i) → t ≡ false → is_row count i ≡ true
-row-there count i t p e = not-false (is_row count i) (sym p ∙ e)
-
-pub row-place : (count i : ℕ) (t : Bool) → t ≡ not (is_row count i) → t ≡ false → i < 16
-row-place count i t p e = (row_is count i (row-there count i t p e)).1
-
 -- a read and a store at one place: the default of the read does not matter
 pub modify-set : {A : Type 0} (f : A → A) (l : List A) (i : ℕ) (d v : A) → v ≡ f (get_or l i d) → i < length l → set l i v ≡ modify f i l
 modify-set f [] i d v q h = absurd (omega arith)
@@ -49,9 +42,6 @@ get_d_any (x ∷ l) (suc i) d e h = get_d_any l i d e (omega arith)
 -- an element as the code takes it, and what stands for one past the last
 pub taken : {A : Type 0} (l : List A) (i : ℕ) (y z : A) → length l ≡ 16 → i < 16 → Takes l i z (get_or l i y)
 taken l i y z e h = record { long = e; element = get_d_any l i y z (omega arith) }
-
-pub taken-past : {A : Type 0} (l : List A) (i : ℕ) (z r : A) → length l ≡ 16 → 16 ≤ i → r ≡ z → Takes l i z r
-taken-past l i z r e h q = record { long = e; element = q ∙ sym (get_or-eq_default l z (omega arith)) }
 
 -- two numbers that a test tells apart
 pub apart : (p : ℕ → Bool) (m n : ℕ) → p m ≡ true → p n ≡ false → m ≢ n

@@ -3,20 +3,20 @@ use Rattle.std.specs.Prelude.{ℕ, ◌*◌, ◌≤◌, ◌<◌, ◌≡◌, Bool,
 use Rattle.base.specs.Lists.{any}
 
 -- a row of the table that can apply: its number, and whether it does
-pub record Refusal : Type 0 where
+pub record TableRow : Type 0 where
   pub number : ℕ
   pub applies : Bool
 
-abbrev pub when : ℕ → Bool → Refusal
+abbrev pub when : ℕ → Bool → TableRow
 when n b = record { number = n; applies = b }
 
 -- the number of the first that applies; "0 done: nothing below applies"
-abbrev pub first_of : List Refusal → ℕ
+abbrev pub first_of : List TableRow → ℕ
 first_of [] = 0
 first_of (r ∷ l) = cond r.applies r.number (first_of l)
 
 -- a number of the table applies
-unfoldable pub applying : ℕ → List Refusal → Bool
+unfoldable pub applying : ℕ → List TableRow → Bool
 applying n l = any (λ r. eqb r.number n && r.applies) l
 
 -- Which number comes before which: the lower one. Document 02, #104: "13 malformed, right after 3 and 4 and before 8": its place is between those of
@@ -32,6 +32,6 @@ pub record Order : Type 0 where
 
 -- "The lowest number that applies is given", 13 in its place: where a number applies, the answer comes no later and is not 0; and an answer that
 -- is not 0 applies
-pub record LowestOf (l : List Refusal) (answer : ℕ) : Type 0 where
+pub record LowestOf (l : List TableRow) (answer : ℕ) : Type 0 where
   pub lowest : (n : ℕ) → applying n l ≡ true → (1 ≤ answer) × (order_of answer ≤ order_of n)
   pub given : 1 ≤ answer → applying answer l ≡ true

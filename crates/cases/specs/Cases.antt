@@ -1,5 +1,5 @@
 -- The cases of a test program's data, each after its length in four bytes, low first.
-use Rattle.std.specs.Prelude.{ℕ, zero, suc, ◌+◌, ◌-◌, ◌*◌, min, Bool, cond, List, leb, length, get_or, take, drop}
+use Rattle.std.specs.Prelude.{ℕ, zero, suc, ◌+◌, ◌-◌, ◌*◌, ◌≤◌, ◌≡◌, min, Bool, cond, List, leb, length, get_or, take, drop}
 
 -- the length at a place
 abbrev pub size_at : List ℕ → ℕ → ℕ
@@ -37,3 +37,10 @@ case_count s = count_from s (length s) 0
 -- the bytes after them
 abbrev pub left_over : List ℕ → ℕ
 left_over s = length s - case_place s (case_count s) 0
+
+-- a place is that of the case of a number: so many whole cases stand before it, and the rest are counted from it on
+pub record Placed (s : List ℕ) (at number : ℕ) : Type 0 where
+  pub within : at ≤ length s
+  pub few : number ≤ at
+  pub place : case_place s number 0 ≡ at
+  pub same : number + count_from s (length s - number) at ≡ case_count s

@@ -1,3 +1,3 @@
-// Condition 3 over the rules of the drive: the history rule, and what could have moved a band. There is no code here.
+//! Condition 3 over the rules of the drive: the history rule, and what could have moved a band. There is no code here.
 
 #![tactic(auto)]

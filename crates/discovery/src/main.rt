@@ -2,5 +2,5 @@
 #![tactic(auto)]
 
 fn main(rt: HostRuntime) {
-    program::discover(&rt);
+    let _ = program::discover(&rt);
 }

@@ -9,9 +9,11 @@ use lib.ListN.{length, get_or, take, drop}
 use Rattle.base.specs.Lists.{any}
 use Rattle.base.specs.Columns.{named}
 use Rattle.base.proofs.Cases.{cond_either, or_yes, or-second}
-use Rattle.output.specs.declared.Written.{Written}
+use Rattle.std.specs.Prelude.{Result, Ok, Err}
+use Rattle.answer.specs.declared.Refusal.{Refusal}
 use Rattle.output.specs.Filling.{told_in, filled_by}
 use Rattle.output.proofs.Filled.{filled-bytes}
+use Rattle.answer.proofs.Injective.{refusal_number}
 use Rattle.band.specs.declared.Row.{Row}
 use Rattle.band.specs.declared.Side.{Side}
 use Rattle.band.specs.declared.Side.TheVariants.{Read, Write}
@@ -40,10 +42,10 @@ use Rattle.discovery_answer.specs.Read.{
   shown_in,
 }
 use Rattle.discovery_answer.specs.Answers.{SomeSideLocked, FlagsAre, both_with, ShowsDrive, ReadsBack, numbers_with, DiscoveryAnswers}
-use Rattle.discovery_answer.proofs.Writing.{discovery-length, filled-so}
+use Rattle.discovery_answer.proofs.Writing.{discovery-length, filled_so}
 use Rattle.discovery_answer.proofs.Alike.{same_answer, same-shown, header-answer, header-shown, reserved-passed-over, six-flags}
 use Rattle.discovery_answer.proofs.Descriptors.{all_back, only-form}
-use Rattle.discovery_answer.proofs.Exact.{answer-done, answer-shown, only-answers, else-short}
+use Rattle.discovery_answer.proofs.Exact.{answer-done, answer-shown, only-answers, else-short, nothing-shown}
 
 -- ---- the flags
 
@@ -159,11 +161,14 @@ read_back d rest =
     }
 
 -- the output that the writer has filled
-pub wrote-back : (d : Drive) (flags : ℕ) (bytes out : List ℕ) (w : Written) (after : List ℕ) → flags ≡ flags_of d
+pub wrote-back : (d : Drive) (flags : ℕ) (bytes out : List ℕ) (w : Result ℕ Refusal) (after : List ℕ) → flags ≡ flags_of d
     → bytes ≡ answer_bytes (locking_feature flags ∷ ranges_feature ∷ []) → told_in w after ≡ filled_by bytes out → ReadsBack d w after
 wrote-back d flags bytes out w after p q f z =
-    rw (filled-bytes (discovery_of d) out _ _ after (filled-so d flags bytes out w after p q f) z).2
-    (read_back d (drop (length (discovery_of d)) out))
+    back w (filled_so d flags bytes out w after p q f) z
+  where
+    back : (r : Result ℕ Refusal) → told_in r after ≡ filled_by (discovery_of d) out → ReadsBack d r after
+    back (Ok n) g z = rw (filled-bytes (discovery_of d) out 0 n after g refl).2 (read_back d (drop (length (discovery_of d)) out))
+    back (Err e) g z = absurd (omega (arith, refusal_number e, z))
 
 by_number : (d : Drive) → discovery_of d ≡ numbers_with (flags_of d)
 unfolding discovery_of answer_bytes feature_bytes
@@ -174,8 +179,8 @@ discovery-answers = record {
   length-is = discovery-length;
   by_number = by_number;
   read_back = read_back;
-  one_answer = λ d out out' after after' w w' f f' z z'.
-      (filled-bytes (discovery_of d) out _ _ after f z).1 ∙ sym (filled-bytes (discovery_of d) out' _ _ after' f' z').1;
+  one_answer = λ d out out' after after' n n' f f'.
+      (filled-bytes (discovery_of d) out 0 n after f refl).1 ∙ sym (filled-bytes (discovery_of d) out' 0 n' after' f' refl).1;
   to_the_end = λ s t e. (same_answer s t e, same-shown s t e);
   header-passed-over = λ s t l e d. (header-answer s t l e d, header-shown s t l e d);
   reserved-passed-over = reserved-passed-over;
@@ -183,6 +188,7 @@ discovery-answers = record {
   answers-read = λ s fs a. (answer-done s fs a, answer-shown s fs a);
   only-answers = only-answers;
   else-short = else-short;
+  nothing-shown = nothing-shown;
   descriptors-back = λ fs a. all_back fs (length (feature_bytes fs)) a (omega arith);
   one_form = λ s fs b e. only-form (length s) s fs b e;
 }

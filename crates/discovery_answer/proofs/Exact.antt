@@ -4,16 +4,16 @@ use mathlib.Core.Logic.{◌≢◌}
 use Prim.Native.Nat.{ℕ, ◌+◌, ◌-◌, ◌≤◌}
 use native.Mathlib.Omega.{arith}
 use mathlib.Core.Bool.{Bool, true, false, cond, false≢true}
-use mathlib.Core.List.{List, ◌++◌}
-use lib.Dec.{ltb}
+use mathlib.Core.List.{List, [], ◌++◌}
+use lib.Dec.{ltb, eqb}
 use lib.ListN.{length, take, drop, length-append, length-take, length-drop, take-append-drop}
 use lib.Seq.{take-append_seam, drop_at, drop-drop, length-take-le}
-use borrow.Author.Tests.{le-ltb, ltb-false}
+use borrow.Author.Tests.{le-ltb, ltb-false, ne_eqb}
 use Rattle.base.specs.Lists.{Bytes}
 use Rattle.base.proofs.Bytes.{bytes_drop, bytes_take}
 use Rattle.base.proofs.Refusals.{applies_at, none-applies}
 use Rattle.discovery_answer.specs.Format.{Descriptor, feature_bytes}
-use Rattle.discovery_answer.specs.Read.{Descriptors, whole, past_end, descriptors_in, is_past, features_of, end_in, features_in, read_refusals, read_answer, shown_by, shown_in}
+use Rattle.discovery_answer.specs.Read.{Descriptors, whole, past_end, descriptors_in, is_past, features_of, listed, end_in, features_in, read_refusals, read_answer, shown_by, shown_in}
 use Rattle.discovery_answer.specs.Answers.{IsAnswer}
 use Rattle.discovery_answer.proofs.Descriptors.{all_back, only-form}
 use Rattle.discovery_answer.proofs.Alike.{drop-take, answer_by, answer-by}
@@ -107,3 +107,8 @@ twelve false false false false z = absurd (z refl)
 pub else-short : (s : List ℕ) → read_answer s ≢ 0 → read_answer s ≡ 12
 unfolding read_answer
 else-short s z = twelve (ltb (length s) 48) (ltb (length s) (end_in s)) (ltb (end_in s) 48) (is_past (features_in s)) z
+
+-- with which nothing is shown
+pub nothing-shown : (s : List ℕ) → read_answer s ≢ 0 → shown_in s ≡ features_of []
+unfolding shown_in
+nothing-shown s z = ap (λ (b : Bool). features_of (cond b (listed (features_in s)) [])) (ne_eqb (read_answer s) 0 z)

@@ -1,20 +1,19 @@
 -- The walk over the descriptors: what one of them adds to what is shown, and what the loop knows.
 use mathlib.Core.Path.{◌≡◌, refl, sym, ap, ◌∙◌}
-use mathlib.Core.Logic.{◌≢◌}
-use Prim.Native.Nat.{ℕ, zero, suc, ◌+◌, ◌-◌, ◌*◌, ◌/◌, ◌%◌, ◌<◌, ◌≤◌}
+use Prim.Native.Nat.{ℕ, zero, suc, ◌-◌, ◌%◌, ◌<◌, ◌≤◌}
 use native.Mathlib.Omega.{arith}
 use mathlib.Core.Bool.{Bool, true, false, cond, ◌||◌}
 use mathlib.Core.List.{List, [], ◌∷◌}
 use lib.Dec.{eqb}
-use lib.ListN.{length, get_or, take, drop, length-drop, get_or-eq_default}
-use lib.Seq.{length-take-le, take_all, drop-drop, get_or-drop, get_or-take}
+use lib.ListN.{length, get_or, take, drop, length-drop}
+use lib.Seq.{length-take-le, take_all, get_or-drop, get_or-take}
 use borrow.Author.Tests.{eq-eqb, ne_eqb, eqb-true, lt-ltb, le-ltb}
 use Rattle.base.specs.Lists.{any}
 use Rattle.base.proofs.Cases.{and_left, and_right, or-second}
-use Rattle.answer.specs.declared.Answer.TheVariants.{Done, ShortAnswer}
+use Rattle.std.specs.Prelude.{Ok, Err}
+use Rattle.answer.specs.declared.Refusal.TheVariants.{ShortAnswer}
 use Rattle.discovery_answer.specs.declared.Features.{Features}
-use Rattle.discovery_answer.specs.declared.Shown.{Shown}
-use Rattle.discovery_answer.specs.Format.{Descriptor, header_bytes, locking_code, ranges_code, flags_in}
+use Rattle.discovery_answer.specs.Format.{Descriptor, locking_code, ranges_code, flags_in}
 use Rattle.discovery_answer.specs.Read.{
   descriptor_in,
   width_in,
@@ -29,33 +28,16 @@ use Rattle.discovery_answer.specs.Read.{
   first_flags,
   features_of,
 }
-use Rattle.discovery_answer.specs.Parts.{shown_after, short_shown, walked}
+use Rattle.discovery_answer.specs.Parts.{shown_after, walked}
 
 pub none-shown : record { locking = false; ranges = false; flags = 0 } ≡ features_of []
 unfolding any first_flags
 none-shown = refl
 
--- an answer that is short shows nothing
-pub short-shown : (none : Features) (r : Shown) → none ≡ features_of [] → r ≡ record { answer = ShortAnswer; features = none } → r ≡ short_shown
-short-shown none r e q = q ∙ ap (λ (x : Features). record { answer = ShortAnswer; features = x }) e
-
-pub short-width : (s : List ℕ) → length s < 4 → 4 ≡ width_in s
-short-width s h = rw (get_or-eq_default s 0 {n = 3} (omega (arith, h)))
-
 -- ---- whether a descriptor is of a feature
 
 content-long : (s : List ℕ) → width_in s ≤ length s → length (descriptor_in s).content ≡ get_or s 3 0
 content-long s room = length-take-le (get_or s 3 0) (drop 4 s) (omega (arith, room, length-drop 4 s))
-
-module _ (s : List ℕ) (code given : ℕ) (room : width_in s ≤ length s) (g : given ≡ get_or s 0 0 * 256 + get_or s 1 0) where
-  pub other-code : given ≢ code → false ≡ is_feature code (descriptor_in s)
-  other-code q = rw (← g, ne_eqb given code q)
-
-  pub other-version : given ≡ code → get_or s 2 0 / 16 ≢ 1 → false ≡ is_feature code (descriptor_in s)
-  other-version q v = rw (← g, eq-eqb given code q, ne_eqb (get_or s 2 0 / 16) 1 v)
-
-  pub by_length : given ≡ code → get_or s 2 0 / 16 ≡ 1 → eqb (get_or s 3 0) 12 ≡ is_feature code (descriptor_in s)
-  by_length q v = rw (← g, eq-eqb given code q, eq-eqb (get_or s 2 0 / 16) 1 v, content-long s room)
 
 -- the flags of the Locking feature are the first byte of its content
 module _ (s : List ℕ) (t : Bool) (room : width_in s ≤ length s) (p : t ≡ is_feature locking_code (descriptor_in s)) (h : t ≡ true) where
@@ -64,9 +46,6 @@ module _ (s : List ℕ) (t : Bool) (room : width_in s ≤ length s) (p : t ≡ i
       let d = descriptor_in s in
       sym (content-long s room)
       ∙ eqb-true (length d.content) 12 (and_right (eqb d.version 1) _ (and_right (eqb d.code 2) _ (sym p ∙ h)))
-
-  pub flags-there : 4 < length s
-  flags-there = omega (arith, room, long)
 
   pub flags-first : get_or s 4 0 % 64 ≡ flags_in (get_or (descriptor_in s).content 0 0)
   flags-first = ap flags_in (sym (get_or-take (get_or s 3 0) (drop 4 s) 0 0 (omega (arith, long)) ∙ get_or-drop 4 s 0 0))
@@ -92,26 +71,28 @@ module _ (f : Features) (s : List ℕ) (t : Bool) (p : t ≡ is_feature locking_
   is-locking : t ≡ true → is_feature locking_code (descriptor_in s) ≡ true
   is-locking h = sym p ∙ h
 
-  pub noted-again : t ≡ true → f.locking ≡ true → (fs : List Descriptor) → shown_after f fs ≡ shown_after f (descriptor_in s ∷ fs)
-  noted-again h e fs =
+  pub noted_again : t ≡ true → f.locking ≡ true → (fs : List Descriptor) → shown_after f fs ≡ shown_after f (descriptor_in s ∷ fs)
+  noted_again h e fs =
       let m = one_more f (descriptor_in s) true false (is-locking h) (not-both (descriptor_in s) (is-locking h)) fs in
       rw (m, e)
 
-  pub noted-locking : width_in s ≤ length s → t ≡ true → f.locking ≡ false → (fs : List Descriptor)
+  pub noted_locking : width_in s ≤ length s → t ≡ true → f.locking ≡ false → (fs : List Descriptor)
       → shown_after (record { locking = true; ranges = f.ranges; flags = get_or s 4 0 % 64 }) fs ≡ shown_after f (descriptor_in s ∷ fs)
-  noted-locking room h e fs =
+  noted_locking room h e fs =
       let m = one_more f (descriptor_in s) true false (is-locking h) (not-both (descriptor_in s) (is-locking h)) fs in
       rw (m, e, flags-first s t room p h)
 
   module _ (u : Bool) (q : u ≡ is_feature ranges_code (descriptor_in s)) where
-    pub noted-ranges : t ≡ false → u ≡ true → (fs : List Descriptor)
+    pub noted_ranges : t ≡ false → u ≡ true → (fs : List Descriptor)
         → shown_after (record { locking = f.locking; ranges = true; flags = f.flags }) fs ≡ shown_after f (descriptor_in s ∷ fs)
-    noted-ranges h k fs =
+    noted_ranges h k fs =
         let m = one_more f (descriptor_in s) false true (sym p ∙ h) (sym q ∙ k) fs in
         rw (m, or-second f.ranges true refl)
 
-    pub noted-none : t ≡ false → u ≡ false → (fs : List Descriptor) → shown_after f fs ≡ shown_after f (descriptor_in s ∷ fs)
-    noted-none h k fs = sym (one_more f (descriptor_in s) false false (sym p ∙ h) (sym q ∙ k) fs)
+    pub noted_none : t ≡ false → u ≡ false → (fs : List Descriptor) → shown_after f fs ≡ shown_after f (descriptor_in s ∷ fs)
+    noted_none h k fs = sym (one_more f (descriptor_in s) false false (sym p ∙ h) (sym q ∙ k) fs)
+
+pub ruleset noting = (noted_again, noted_locking, noted_ranges, noted_none)
 
 -- ---- the descriptors, one a turn
 
@@ -139,7 +120,7 @@ module _ (s : List ℕ) where
 -- a descriptor before others, in the walk
 walked-before : (f g : Features) (d : Descriptor) (ds : Descriptors) → ((fs : List Descriptor) → shown_after g fs ≡ shown_after f (d ∷ fs))
     → walked f (before d ds) ≡ walked g ds
-walked-before f g d (whole fs) h = ap (λ (x : Features). record { answer = Done; features = x }) (sym (h fs))
+walked-before f g d (whole fs) h = ap (λ (x : Features). Ok x) (sym (h fs))
 walked-before f g d past_end h = refl
 
 or-false : (b : Bool) → (b || false) ≡ b
@@ -154,66 +135,50 @@ nothing-more : (f : Features) → shown_after f [] ≡ f
 unfolding any
 nothing-more f = rw (or-false f.locking, or-false f.ranges, same-arms f.locking f.flags)
 
--- what the loop knows at a place
-pub record Walking (s : List ℕ) (features : Features) (at : ℕ) : Type 0 where
+-- what the loop knows where these bytes are left
+pub record Walking (s : List ℕ) (features : Features) (rest : List ℕ) : Type 0 where
   pub most : ℕ
-  pub enough : length s - at ≤ most
-  pub same : walked (features_of []) (descriptors_in (drop header_bytes s)) ≡ walked features (descriptors_up_to most (drop at s))
+  pub enough : length rest ≤ most
+  pub same : walked (features_of []) (descriptors_in s) ≡ walked features (descriptors_up_to most rest)
 
--- the part of the bytes from a place on, as the code has it
-abbrev part_from : List ℕ → ℕ → List ℕ
-part_from s at = take (length s - at) (drop at s)
-
-pub walk-begin : (s : List ℕ) (f : Features) → f ≡ features_of [] → Walking s f 48
-walk-begin s f e = record {
-  most = length (drop 48 s);
-  enough = omega (arith, length-drop 48 s);
-  same = ap (λ (x : Features). walked x (descriptors_in (drop 48 s))) (sym e);
+pub walk_begin : (s : List ℕ) (f : Features) → f ≡ features_of [] → Walking s f s
+walk_begin s f e = record {
+  most = length s;
+  enough = omega arith;
+  same = ap (λ (x : Features). walked x (descriptors_in s)) (sym e);
 }
 
-module _ (s : List ℕ) (f : Features) (at width : ℕ) (w : Walking s f at) (h : at < length s) (e : width ≡ width_in (part_from s at)) where
-  all-of-it : part_from s at ≡ drop at s
-  all-of-it = take_all (length s - at) (drop at s) (omega (arith, length-drop at s))
+module _ (s : List ℕ) (f : Features) (rest : List ℕ) (width : ℕ) (w : Walking s f rest) (h : 0 < length rest) (e : width ≡ width_in rest) where
+  pub walk_past : length rest < width → Err ShortAnswer ≡ walked (features_of []) (descriptors_in s)
+  walk_past q = sym (w.same ∙ ap (walked f) (first_past rest h w.most (omega (arith, q, e))))
 
-  some_left : 0 < length (drop at s)
-  some_left = omega (arith, h, length-drop at s)
-
-  width_is : width_in (drop at s) ≡ width
-  width_is = sym (e ∙ ap width_in all-of-it)
-
-  pub walk-past : (r : Shown) → length (part_from s at) < width → r ≡ short_shown
-      → r ≡ walked (features_of []) (descriptors_in (drop header_bytes s))
-  walk-past r q k =
-      let p = first_past (drop at s) some_left w.most (omega (arith, q, ap length all-of-it, width_is)) in
-      k ∙ sym (w.same ∙ ap (walked f) p)
-
-  module _ (g : Features) (r : width ≤ length (part_from s at))
-      (n : (fs : List Descriptor) → shown_after g fs ≡ shown_after f (descriptor_in (part_from s at) ∷ fs)) where
-    noted : (fs : List Descriptor) → shown_after g fs ≡ shown_after f (descriptor_in (drop at s) ∷ fs)
-    noted fs = n fs ∙ ap (λ (l : List ℕ). shown_after f (descriptor_in l ∷ fs)) all-of-it
-
-    one_on : (most : ℕ) → length s - at ≤ suc most → walked (features_of []) (descriptors_in (drop header_bytes s)) ≡ walked f (descriptors_up_to (suc most) (drop at s))
-        → Walking s g (at + width)
+  module _ (g : Features) (r : width ≤ length rest)
+      (n : (fs : List Descriptor) → shown_after g fs ≡ shown_after f (descriptor_in rest ∷ fs)) where
+    one_on : (most : ℕ) → length rest ≤ suc most → walked (features_of []) (descriptors_in s) ≡ walked f (descriptors_up_to (suc most) rest)
+        → Walking s g (drop width rest)
     one_on most k q = record {
       most = most;
-      enough = omega (arith, k, width_is);
+      enough = omega (arith, k, e, length-drop width rest);
       same =
           q
-          ∙ ap (walked f) (first-descriptor (drop at s) some_left most (omega (arith, r, ap length all-of-it, width_is)))
-          ∙ walked-before f g (descriptor_in (drop at s)) (descriptors_up_to most (drop (width_in (drop at s)) (drop at s))) noted
-          ∙ ap (λ (l : List ℕ). walked g (descriptors_up_to most l)) (ap (λ (i : ℕ). drop i (drop at s)) width_is ∙ drop-drop width at s);
+          ∙ ap (walked f) (first-descriptor rest h most (omega (arith, r, e)))
+          ∙ walked-before f g (descriptor_in rest) (descriptors_up_to most (drop (width_in rest) rest)) n
+          ∙ ap (λ (i : ℕ). walked g (descriptors_up_to most (drop i rest))) (sym e);
     }
 
-    pub walk-again : Walking s g (at + width)
-    walk-again = go w.most w.enough w.same
+    after : Walking s g (drop width rest)
+    after = go w.most w.enough w.same
       where
-        go : (most : ℕ) → length s - at ≤ most → walked (features_of []) (descriptors_in (drop header_bytes s)) ≡ walked f (descriptors_up_to most (drop at s))
-            → Walking s g (at + width)
+        go : (most : ℕ) → length rest ≤ most → walked (features_of []) (descriptors_in s) ≡ walked f (descriptors_up_to most rest)
+            → Walking s g (drop width rest)
         go zero k q = absurd (omega (arith, h, k))
         go (suc most) k q = one_on most k q
 
-pub walk-done : (s : List ℕ) (f : Features) (at : ℕ) → Walking s f at → length s ≤ at
-    → record { answer = Done; features = f } ≡ walked (features_of []) (descriptors_in (drop header_bytes s))
-walk-done s f at w h =
-    let n = no-descriptor (drop at s) w.most (omega (arith, h, length-drop at s)) in
-    ap (λ (x : Features). record { answer = Done; features = x }) (sym (nothing-more f)) ∙ sym (w.same ∙ ap (walked f) n)
+    -- the rest after it, as a part
+    pub walk_again : Walking s g (take (length rest - width) (drop width rest))
+    walk_again = rw (take_all (length rest - width) (drop width rest) (omega (arith, length-drop width rest))) after
+
+pub walk_done : (s : List ℕ) (f : Features) (rest : List ℕ) → Walking s f rest → length rest ≡ 0 → Ok f ≡ walked (features_of []) (descriptors_in s)
+walk_done s f rest w h = ap (λ (x : Features). Ok x) (sym (nothing-more f)) ∙ sym (w.same ∙ ap (walked f) (no-descriptor rest w.most h))
+
+pub ruleset walking = (walk_begin, walk_past, walk_again, walk_done)

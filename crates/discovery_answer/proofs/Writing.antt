@@ -1,72 +1,53 @@
--- The writer: whether a side is locked, and the bytes.
+-- The writer's bytes.
 use mathlib.Core.Path.{◌≡◌, refl, sym, ap, ◌∙◌}
-use Prim.Native.Nat.{ℕ, ◌+◌, ◌<◌, ◌≤◌}
+use Prim.Native.Nat.{ℕ, min}
 use native.Mathlib.Omega.{arith}
 use mathlib.Core.Bool.{Bool, true, false, ◌||◌}
+use lib.Dec.{ltb}
+use lib.Seq.{take_all}
+use borrow.Author.Tests.{ltb-true, ltb-false}
 use mathlib.Core.List.{List, [], ◌∷◌}
-use lib.ListN.{length, get_or, take, length-take}
-use lib.Seq.{get_or-take}
+use lib.ListN.{length, take}
+use Rattle.std.specs.List.{list_any}
 use Rattle.base.specs.Lists.{any}
-use Rattle.base.proofs.Loops.{Sought, seek-begin, seek-again, seek_found, seek-done}
 use Rattle.band.specs.declared.Row.{Row}
-use Rattle.band.specs.declared.Side.TheVariants.{Read, Write}
-use Rattle.band.specs.Rows.{closed_on}
 use Rattle.drive.specs.declared.Drive.{Drive}
-use Rattle.output.specs.declared.Written.{Written}
+use Rattle.std.specs.Prelude.{Result}
+use Rattle.answer.specs.declared.Refusal.{Refusal}
 use Rattle.output.specs.Filling.{told_in, filled_by}
 use Rattle.discovery_answer.specs.Format.{feature_bytes, answer_bytes, locking_feature, ranges_feature}
-use Rattle.discovery_answer.specs.Write.{closed, some_closed, flags_of, discovery_of, discovery_bytes}
+use Rattle.discovery_answer.specs.Write.{closed, flags_of, discovery_of, discovery_bytes}
 
-pub closed_is : (row : Row) (a b r : Bool) → a ≡ closed_on Read row → b ≡ closed_on Write row → r ≡ (a || b) → r ≡ closed row
-closed_is row a b r p q e = rw (e, p, q)
+-- some of the first rows has a side enabled and locked
+list-any : {A : Type 0} (p : A → Bool) (l : List A) → list_any p l ≡ any p l
+unfolding any
+list-any p [] = refl
+list-any p (x ∷ l) = ap (λ (b : Bool). p x || b) (list-any p l)
 
--- ---- the rows below the count, one a turn
-
--- what the loop knows after i turns
-abbrev pub Looking : List Row → ℕ → ℕ → Type 0
-Looking rows count i = Sought closed (length (take count rows)) (take count rows) i
-
-pub look-begin : (rows : List Row) (count : ℕ) → Looking rows count 0
-look-begin rows count = seek-begin closed (length (take count rows)) (take count rows) refl
-
-module _ (rows : List Row) (count i : ℕ) (k : Looking rows count i) where
-  module _ (l : length rows ≡ 16) (d : Row) (t : Bool) (h : i < 16) (c : i < count) (e : t ≡ closed (get_or rows i d)) where
-    below : i < length (take count rows)
-    below = omega (arith, l, h, c, length-take count rows)
-
-    same : t ≡ closed (get_or (take count rows) i d)
-    same = e ∙ ap closed (sym (get_or-take count rows i d c))
-
-    pub look-again : t ≡ false → Looking rows count (i + 1)
-    look-again f = seek-again closed (length (take count rows)) (take count rows) i d t k below same f
-
-    pub look-found : t ≡ true → true ≡ any closed (take count rows)
-    look-found f = seek_found closed (length (take count rows)) (take count rows) i d t k below same f
-
-  pub look-past : count ≤ i → false ≡ any closed (take count rows)
-  look-past h = seek-done closed (length (take count rows)) (take count rows) i k (omega (arith, h, length-take count rows))
-
-  pub look-done : length rows ≡ 16 → 16 ≤ i → false ≡ any closed (take count rows)
-  look-done l h = seek-done closed (length (take count rows)) (take count rows) i k (omega (arith, l, h, length-take count rows))
-
--- ---- the flags and the bytes
-
-pub flags-locked : (d : Drive) (t : Bool) → t ≡ any closed (take d.band_count d.rows) → t ≡ true → 13 ≡ flags_of d
-unfolding flags_of some_closed
-flags-locked d t e f = rw (← e, f)
-
-pub flags-open : (d : Drive) (t : Bool) → t ≡ any closed (take d.band_count d.rows) → t ≡ false → 9 ≡ flags_of d
-unfolding flags_of some_closed
-flags-open d t e f = rw (← e, f)
+pub first-closed : (rows : List Row) (count n : ℕ) → n ≡ min count 16 → length rows ≡ 16 → list_any closed (take n rows) ≡ any closed (take count rows)
+first-closed rows count n e h =
+    list-any closed (take n rows)
+    ∙ ap (any closed) (ap (λ (i : ℕ). take i rows) e ∙ take-min count 16 rows h)
+  where
+    take-min : (n m : ℕ) (l : List Row) → length l ≡ m → take (min n m) l ≡ take n l
+    take-min n m l e = go (ltb m n) refl
+      where
+        go : (b : Bool) → ltb m n ≡ b → take (min n m) l ≡ take n l
+        go true q =
+            let k : min n m ≡ m = omega (arith, ltb-true m n q) in
+            ap (λ (i : ℕ). take i l) k ∙ take_all m l (omega (arith, e)) ∙ sym (take_all n l (omega (arith, e, ltb-true m n q)))
+        go false q =
+            let k : min n m ≡ n = omega (arith, ltb-false m n q) in
+            ap (λ (i : ℕ). take i l) k
 
 pub discovery-length : (d : Drive) → length (discovery_of d) ≡ discovery_bytes
 unfolding discovery_of answer_bytes feature_bytes
 discovery-length d = refl
 
-pub filled-so : (d : Drive) (flags : ℕ) (bytes out : List ℕ) (r : Written) (after : List ℕ) → flags ≡ flags_of d
+pub filled_so : (d : Drive) (flags : ℕ) (bytes out : List ℕ) (r : Result ℕ Refusal) (after : List ℕ) → flags ≡ flags_of d
     → bytes ≡ answer_bytes (locking_feature flags ∷ ranges_feature ∷ []) → told_in r after ≡ filled_by bytes out → told_in r after ≡ filled_by (discovery_of d) out
 unfolding discovery_of
-filled-so d flags bytes out r after f b h =
+filled_so d flags bytes out r after f b h =
     let e : bytes ≡ answer_bytes (locking_feature (flags_of d) ∷ ranges_feature ∷ []) =
     b ∙ ap (λ (n : ℕ). answer_bytes (locking_feature n ∷ ranges_feature ∷ [])) f in
     rw e at h

@@ -1,9 +1,9 @@
 -- Document 02, #102: what the writer and the reader come to together (theorem `discovery-answers` in proofs/Answering).
-use Rattle.std.specs.Prelude.{ℕ, ◌+◌, ◌<◌, ◌≡◌, ◌↔◌, ◌≢◌, true, false, List, [], ◌∷◌, ◌++◌, map, length, get_or, take, drop, replicate}
+use Rattle.std.specs.Prelude.{ℕ, ◌+◌, ◌<◌, ◌≡◌, ◌↔◌, ◌≢◌, true, false, List, [], ◌∷◌, ◌++◌, map, length, get_or, take, drop, replicate, Result, Ok}
 use Rattle.base.specs.Lists.{Bytes}
 use Rattle.base.specs.Columns.{named}
-use Rattle.answer.specs.Numbers.{number_of}
-use Rattle.output.specs.declared.Written.{Written}
+use Rattle.answer.specs.declared.Refusal.{Refusal}
+use Rattle.answer.specs.Numbers.{answer_number}
 use Rattle.output.specs.Filling.{told_in, filled_by}
 use Rattle.band.specs.declared.Side.{Side}
 use Rattle.band.specs.Rows.{closed_on}
@@ -54,8 +54,8 @@ pub record ShowsDrive (d : Drive) (answer : ℕ) (features : Features) : Type 0 
   pub flags : FlagsAre d features.flags
 
 -- where the writer is done, the output reads so, with what stood there behind the answer
-abbrev pub ReadsBack : Drive → Written → List ℕ → Type 0
-ReadsBack d w after = number_of w.answer ≡ 0 → ShowsDrive d (read_answer after) (shown_in after)
+abbrev pub ReadsBack : Drive → Result ℕ Refusal → List ℕ → Type 0
+ReadsBack d r after = answer_number r ≡ 0 → ShowsDrive d (read_answer after) (shown_in after)
 
 -- an answer's 80 bytes by their numbers: 76 bytes follow the length field; revision 1; 0002 and 0401, each of version 1 with 12 bytes
 abbrev pub numbers_with : ℕ → List ℕ
@@ -110,9 +110,8 @@ pub record DiscoveryAnswers : Type 0 where
   -- reading what was written shows both features and the drive's flags, whatever bytes follow
   pub read_back : (d : Drive) (rest : List ℕ) → ShowsDrive d (read_answer (discovery_of d ++ rest)) (shown_in (discovery_of d ++ rest))
   -- no drive makes two different answers
-  pub one_answer : (d : Drive) (out out' after after' : List ℕ) (w w' : Written) → told_in w after ≡ filled_by (discovery_of d) out
-      → told_in w' after' ≡ filled_by (discovery_of d) out' → number_of w.answer ≡ 0 → number_of w'.answer ≡ 0
-      → take w.count after ≡ take w'.count after'
+  pub one_answer : (d : Drive) (out out' after after' : List ℕ) (n n' : ℕ) → told_in (Ok n) after ≡ filled_by (discovery_of d) out
+      → told_in (Ok n') after' ≡ filled_by (discovery_of d) out' → take n after ≡ take n' after'
   -- "Bytes after the end that the header's length field states are not looked at": of bytes that agree up to that end the same is shown
   pub to_the_end : (s t : List ℕ) → take (end_in s) s ≡ take (end_in s) t → ReadAlike s t
   -- "header revision .. (untested on reading), reserved and vendor bytes .. passed over on reading": of the header only the length field is
@@ -126,6 +125,8 @@ pub record DiscoveryAnswers : Type 0 where
   pub answers-read : (s : List ℕ) (fs : List Descriptor) → IsAnswer s fs → (read_answer s ≡ 0) × (shown_in s ≡ features_of fs)
   pub only-answers : (s : List ℕ) → Bytes s → read_answer s ≡ 0 → (fs : List Descriptor) × IsAnswer s fs
   pub else-short : (s : List ℕ) → read_answer s ≢ 0 → read_answer s ≡ 12
+  -- and nothing is shown of them
+  pub nothing-shown : (s : List ℕ) → read_answer s ≢ 0 → shown_in s ≡ features_of []
   -- descriptors read to themselves, whatever their codes, versions and lengths,
   pub descriptors-back : (fs : List Descriptor) → AllFit fs → descriptors_in (feature_bytes fs) ≡ whole fs
   -- and bytes that read to descriptors are the bytes of these, and of no others

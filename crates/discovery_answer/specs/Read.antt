@@ -1,10 +1,10 @@
 -- Document 02, #102: what is shown of the bytes of a discovery answer.
-use Rattle.std.specs.Prelude.{ℕ, zero, suc, ◌+◌, ◌*◌, ◌/◌, ◌%◌, ◌≡◌, Bool, true, false, cond, ◌&&◌, List, [], ◌∷◌, eqb, ltb, length, get_or, take, drop}
+use Rattle.std.specs.Prelude.{ℕ, zero, suc, ◌+◌, ◌*◌, ◌/◌, ◌%◌, ◌≡◌, Bool, true, false, cond, ◌&&◌, List, [], ◌∷◌, eqb, ltb, length, get_or, take, drop, Result, Ok, Err}
 use Rattle.base.specs.Lists.{any}
-use Rattle.base.specs.Refusals.{Refusal, when, first_of}
+use Rattle.base.specs.Refusals.{TableRow, when, first_of}
+use Rattle.answer.specs.declared.Refusal.{Refusal}
 use Rattle.answer.specs.Numbers.{number_of}
 use Rattle.discovery_answer.specs.declared.Features.{Features}
-use Rattle.discovery_answer.specs.declared.Shown.{Shown}
 use Rattle.discovery_answer.specs.Format.{
   Descriptor,
   descriptor_head,
@@ -93,7 +93,7 @@ features_in s = descriptors_in (drop header_bytes (take (end_in s) s))
 
 -- "12 short answer, when the header, or the end that its length field states, lies past the bytes given, or that end lies inside the
 -- header, or a descriptor runs past it"
-abbrev pub read_refusals : List ℕ → List Refusal
+abbrev pub read_refusals : List ℕ → List TableRow
 read_refusals s =
     when 12 (ltb (length s) header_bytes)
     ∷ when 12 (ltb (length s) (end_in s))
@@ -111,7 +111,7 @@ shown_by answer ds = features_of (cond (eqb answer 0) (listed ds) [])
 unfoldable pub shown_in : List ℕ → Features
 shown_in s = shown_by (read_answer s) (features_in s)
 
--- what the reader does with bytes
-pub record Shows (s : List ℕ) (r : Shown) : Type 0 where
-  pub answer : number_of r.answer ≡ read_answer s
-  pub features : r.features ≡ shown_in s
+-- what the reader answers to bytes: what is shown, or the refusal, with which nothing is
+abbrev pub Shows : List ℕ → Result Features Refusal → Type 0
+Shows s (Ok features) = (read_answer s ≡ 0) × (features ≡ shown_in s)
+Shows s (Err refusal) = number_of refusal ≡ read_answer s

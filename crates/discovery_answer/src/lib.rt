@@ -1,15 +1,16 @@
-// The Level 0 discovery answer (document 02, #102; 003, 10.2.14 and 3.6.2.2; 002, 4.1.1): written of a drive, and read.
+//! The Level 0 discovery answer of the TCG's core specification, with the features of a locking drive: written of a drive, and read.
 #![tactic(auto)]
 
-ghost use Rattle.std.specs.Prelude.{◌≡◌, List, [], ◌∷◌, ◌+◌, ◌*◌, ◌<◌, ◌≤◌, length, take, drop};
+ghost use Rattle.std.specs.Prelude.{◌≡◌, ◌*◌, ◌≤◌, List, [], ◌∷◌, ◌++◌, length, take};
 ghost use Rattle.base.specs.Lists.{any};
-ghost use Rattle.answer.specs.declared.Answer.TheVariants.{ShortAnswer};
 ghost use Rattle.output.specs.Filling.{told_in, filled_by};
 ghost use Rattle.discovery_answer.specs.Format.{
   Descriptor,
-  descriptor_head,
+  in_two_bytes,
   header_bytes,
   answer_bytes,
+  feature_version,
+  feature_length,
   locking_feature,
   ranges_feature,
 };
@@ -18,10 +19,9 @@ ghost use Rattle.discovery_answer.specs.Read.{descriptor_in, width_in, descripto
 ghost use Rattle.discovery_answer.specs.Answers.{ReadsBack};
 ghost use Rattle.discovery_answer.specs.Parts.{shown_after, walked};
 
-use answer::Answer;
+use answer::Refusal;
 use band::{Row, Side};
 use drive::Drive;
-use output::Written;
 
 // The bytes of the header, and of its length field.
 const HEADER: usize = 48;
@@ -31,15 +31,15 @@ const LENGTH_FIELD: usize = 4;
 // The bytes of a descriptor before its content.
 const DESCRIPTOR_HEAD: usize = 4;
 
-// The bytes of the answer that is written.
+/// The bytes of the answer that is written.
 pub const BYTES: usize = 80;
 
 const REVISION: u8 = 1;
 
 // The two features: their codes, and the version, as the high half of its byte, and length that both have.
-const LOCKING: usize = 0x0002;
+const LOCKING: u16 = 0x0002;
 
-const RANGES: usize = 0x0401;
+const RANGES: u16 = 0x0401;
 
 const VERSION: u8 = 1;
 
@@ -55,56 +55,46 @@ const MEDIA_ENCRYPTION: u8 = 8;
 // The six flags that the Locking feature has lie below this.
 const FLAGS: u8 = 64;
 
-// What is shown of an answer: whether each of the two features is there, and the flags of the Locking feature.
-#[derive(Clone, Copy)]
+/// What is shown of an answer: whether each of the two features is there, and the flags of the Locking feature.
+#[derive(Clone, Copy, Debug, Default, PartialEq, Eq)]
 pub struct Features {
     pub locking: bool,
     pub ranges: bool,
     pub flags: u8,
 }
 
-// What reading gives: nothing is shown where it is refused.
-#[derive(Clone, Copy)]
-pub struct Shown {
-    pub answer: Answer,
-    pub features: Features,
-}
-
 // ---- the writer
 
-fn is_closed(row: Row) -> bool
-    ensures { result ≡ closed row }
-{
-    base::or(row.closed(Side::Read), row.closed(Side::Write))
-}
-
 // Whether some of the first rows has a side enabled and locked.
-fn some_closed(rows: [Row; 16], count: usize) -> bool
-    ensures { result ≡ any closed (take count rows) }
+fn some_closed(rows: &[Row; 16], count: usize) -> bool
+    ensures { result ≡ any closed (take count rows.now) }
 {
-    for i in 0..16 {
-        if count <= i {
-            return false;
-        }
-        let row = rows[i];
-        if is_closed(row) {
-            return true;
-        }
-    }
-    false
+    rows[..count.min(16)]
+        .iter()
+        .any(|row| row.closed(Side::Read) || row.closed(Side::Write))
 }
 
-fn flags_of(drive: Drive) -> u8
-    ensures { result ≡ flags_of drive }
+#[tactic(auto, unfolding(crate::specs::Write::flags_of, crate::specs::Write::some_closed))]
+fn flags_of(drive: &Drive) -> u8
+    ensures { result ≡ flags_of drive.now }
 {
-    let rows = drive.rows;
-    let count = drive.band_count;
-    if some_closed(rows, count) {
-        return LOCKING_SUPPORTED + MEDIA_ENCRYPTION + LOCKED;
-    }
-    LOCKING_SUPPORTED + MEDIA_ENCRYPTION
+    let locked = if some_closed(&drive.rows, drive.band_count) {
+        LOCKED
+    } else {
+        0
+    };
+    LOCKING_SUPPORTED + MEDIA_ENCRYPTION + locked
 }
 
+// A feature's descriptor before its content.
+fn head_of(code: u16) -> [u8; DESCRIPTOR_HEAD]
+    ensures { result ≡ in_two_bytes code ++ feature_version * 16 ∷ feature_length ∷ [] }
+{
+    let [high, low] = code.to_be_bytes();
+    [high, low, VERSION * 16, CONTENT]
+}
+
+#[tactic(auto, unfolding(crate::specs::Format::answer_bytes, crate::specs::Format::feature_bytes))]
 // The answer's bytes, but for the flags always the same.
 fn bytes_of(flags: u8) -> [u8; BYTES]
     ensures { result ≡ answer_bytes (locking_feature flags ∷ ranges_feature ∷ []) }
@@ -112,139 +102,83 @@ fn bytes_of(flags: u8) -> [u8; BYTES]
     let mut bytes = [0; BYTES];
     bytes[3] = (BYTES - LENGTH_FIELD) as u8;
     bytes[7] = REVISION;
-    bytes[48] = (LOCKING / 256) as u8;
-    bytes[49] = (LOCKING % 256) as u8;
-    bytes[50] = VERSION * 16;
-    bytes[51] = CONTENT;
+    bytes[48..52].copy_from_slice(&head_of(LOCKING));
     bytes[52] = flags;
-    bytes[64] = (RANGES / 256) as u8;
-    bytes[65] = (RANGES % 256) as u8;
-    bytes[66] = VERSION * 16;
-    bytes[67] = CONTENT;
+    bytes[64..68].copy_from_slice(&head_of(RANGES));
     bytes
 }
 
-// Writes the discovery answer of a drive from the output's start. Where it does not fit the output is left as it was.
-pub fn write(drive: Drive, out: &mut [u8]) -> Written
-    ensures out_after { told_in result out.new ≡ filled_by (discovery_of drive) out.old }
-    ensures back { ReadsBack drive result out.new }
+#[tactic(auto, using(crate::proofs::Writing::filled_so))]
+/// Writes the discovery answer of a drive from the output's start, and tells how many bytes it has. An output that is too short is left as it was.
+pub fn write(drive: &Drive, out: &mut [u8]) -> Result<usize, Refusal>
+    ensures out_after { told_in result out.new ≡ filled_by (discovery_of drive.now) out.old }
+    ensures back { ReadsBack drive.now result out.new }
 {
-    let flags = flags_of(drive);
-    let bytes = bytes_of(flags);
-    output::fill(&bytes, out)
+    output::fill(&bytes_of(flags_of(drive)), out)
 }
 
 // ---- the reader
-
-fn no_features() -> Features
-    ensures { result ≡ features_of [] }
-{
-    Features {
-        locking: false,
-        ranges: false,
-        flags: 0,
-    }
-}
-
-// What is handed back where an answer is short: what is shown of it.
-fn short_answer(features: Features) -> Shown
-    ensures { result ≡ record { answer = ShortAnswer; features = features } }
-{
-    Shown {
-        answer: Answer::ShortAnswer,
-        features,
-    }
-}
-
-// The bytes of a descriptor with so long a content.
-fn width_with(length: u8) -> usize
-    ensures { result ≡ descriptor_head + length }
-{
-    DESCRIPTOR_HEAD + (length as usize)
-}
 
 // The bytes of the descriptor that begins the bytes.
 fn width_in(bytes: &[u8]) -> usize
     ensures { result ≡ width_in bytes.now }
 {
-    if bytes.len() < DESCRIPTOR_HEAD {
-        return DESCRIPTOR_HEAD;
-    }
-    width_with(bytes[3])
-}
-
-fn code_of(high: u8, low: u8) -> usize
-    ensures { result ≡ high * 256 + low }
-{
-    (high as usize) * 256 + (low as usize)
+    DESCRIPTOR_HEAD + usize::from(bytes.get(3).copied().unwrap_or(0))
 }
 
 // Whether the descriptor that begins the bytes is of a feature.
-fn is_feature(bytes: &[u8], code: usize) -> bool
+fn is_feature(bytes: &[u8], code: u16) -> bool
     requires { width_in bytes.now ≤ length bytes.now }
     ensures { result ≡ is_feature code (descriptor_in bytes.now) }
 {
-    if code_of(bytes[0], bytes[1]) != code {
-        return false;
-    }
-    if bytes[2] / 16 != VERSION {
-        return false;
-    }
-    bytes[3] == CONTENT
+    u16::from_be_bytes([bytes[0], bytes[1]]) == code
+        && bytes[2] / 16 == VERSION
+        && bytes[3] == CONTENT
 }
 
-// What is shown after one descriptor more, the one that begins the bytes.
-fn noting(features: Features, bytes: &[u8]) -> Features
-    requires { width_in bytes.now ≤ length bytes.now }
-    ensures { (fs : List Descriptor) → shown_after result fs ≡ shown_after features (descriptor_in bytes.now ∷ fs) }
-{
-    if is_feature(bytes, LOCKING) {
-        if features.locking {
-            return features;
+impl Features {
+    #[tactic(auto, using(crate::proofs::Walking::noting))]
+    // What is shown after one descriptor more, the one that begins the bytes.
+    fn noting(self, bytes: &[u8]) -> Features
+        requires { width_in bytes.now ≤ length bytes.now }
+        ensures { (fs : List Descriptor) → shown_after result fs ≡ shown_after self (descriptor_in bytes.now ∷ fs) }
+    {
+        if is_feature(bytes, LOCKING) {
+            if self.locking {
+                return self;
+            }
+            return Features {
+                locking: true,
+                flags: bytes[4] % FLAGS,
+                ..self
+            };
         }
-        return Features {
-            locking: true,
-            ranges: features.ranges,
-            flags: bytes[4] % FLAGS,
-        };
+        if is_feature(bytes, RANGES) {
+            return Features {
+                ranges: true,
+                ..self
+            };
+        }
+        self
     }
-    if is_feature(bytes, RANGES) {
-        return Features {
-            locking: features.locking,
-            ranges: true,
-            flags: features.flags,
-        };
-    }
-    features
 }
 
-// What the descriptors after the header show, up to the last byte.
-fn features_in(bytes: &[u8]) -> Shown
-    ensures { result ≡ walked (features_of []) (descriptors_in (drop header_bytes bytes.now)) }
+#[tactic(auto, using(crate::proofs::Walking::walking))]
+// What the descriptors of the bytes show, up to the last byte.
+fn features_in(bytes: &[u8]) -> Result<Features, Refusal>
+    ensures { result ≡ walked (features_of []) (descriptors_in bytes.now) }
 {
-    let none = no_features();
-    let mut features = none;
-    let mut at = HEADER;
-    while at < bytes.len() {
-        let rest = &bytes[at..];
+    let mut features = Features::default();
+    let mut rest = bytes;
+    while !rest.is_empty() {
         let width = width_in(rest);
         if rest.len() < width {
-            return short_answer(none);
+            return Err(Refusal::ShortAnswer);
         }
-        features = noting(features, rest);
-        at += width;
+        features = features.noting(rest);
+        rest = &rest[width..];
     }
-    Shown {
-        answer: Answer::Done,
-        features,
-    }
-}
-
-fn joined(a: u8, b: u8, c: u8, d: u8) -> usize
-    ensures value { result ≡ a * 16777216 + b * 65536 + c * 256 + d }
-    ensures upper_bound { result < 4294967296 }
-{
-    (a as usize) * 16_777_216 + (b as usize) * 65_536 + (c as usize) * 256 + (d as usize)
+    Ok(features)
 }
 
 // The end that the length field states.
@@ -252,23 +186,21 @@ fn end_in(bytes: &[u8]) -> usize
     requires { header_bytes ≤ length bytes.now }
     ensures { result ≡ end_in bytes.now }
 {
-    LENGTH_FIELD + joined(bytes[0], bytes[1], bytes[2], bytes[3])
+    LENGTH_FIELD + u32::from_be_bytes([bytes[0], bytes[1], bytes[2], bytes[3]]) as usize
 }
 
-// Reads a discovery answer, which may be another drive's: bytes after its end are not looked at.
-pub fn read(bytes: &[u8]) -> Shown
+#[tactic(auto, using(crate::proofs::Reading::reading))]
+/// Reads a discovery answer, which may be another drive's: what it shows. Bytes after its end are not looked at. A short answer is refused:
+/// where its header, a descriptor or the end that it states lies past what is there, or that end inside the header.
+pub fn read(bytes: &[u8]) -> Result<Features, Refusal>
     ensures { Shows bytes.now result }
 {
-    let none = no_features();
     if bytes.len() < HEADER {
-        return short_answer(none);
+        return Err(Refusal::ShortAnswer);
     }
     let end = end_in(bytes);
-    if bytes.len() < end {
-        return short_answer(none);
+    if bytes.len() < end || end < HEADER {
+        return Err(Refusal::ShortAnswer);
     }
-    if end < HEADER {
-        return short_answer(none);
-    }
-    features_in(&bytes[..end])
+    features_in(&bytes[HEADER..end])
 }

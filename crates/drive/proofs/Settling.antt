@@ -1,57 +1,28 @@
 -- Laws of a drive's settling.
 use mathlib.Core.Path.{◌≡◌, refl, ap, ◌∙◌}
-use mathlib.Core.Bool.{Bool, false}
-use Prim.Native.Nat.{ℕ, ◌+◌, ◌<◌, ◌≤◌}
+use mathlib.Core.Bool.{Bool}
+use Prim.Native.Nat.{ℕ, ◌≤◌}
 use lib.Dec.{eqb}
-use lib.ListN.{length, get_or, set}
 use Rattle.base.proofs.Cases.{cond_either}
 use Rattle.base.proofs.Lists.{get_d_map}
-use Rattle.base.proofs.Loops.{Mapped, map-begin, map-again, map-skip, map-done}
+use Rattle.base.proofs.Loops.{Mapped, map-done}
 use mathlib.Core.List.{List, [], ◌∷◌, map}
 use Rattle.sensor.specs.declared.single.Sensor.{Sensor}
 use Rattle.sensors.specs.Sixteen.{conditions_below}
 use Rattle.band.specs.declared.Row.{Row}
 use Rattle.band.specs.Rows.{fresh_row, settle_row}
-use Rattle.band.specs.Parts.{is_lockable}
-use Rattle.band.proofs.Settling.{not-lockable, settle-again, fresh-settles}
+use Rattle.band.proofs.Settling.{settle-again, fresh-settles}
 use Rattle.drive.specs.declared.Drive.{Drive}
 use Rattle.drive.specs.Events.{Event, answer_of, act_of, step_of}
 use Rattle.drive.specs.State.{with_rows, with_sensors, conditions_of, row_at, settle_of, tick_of, fall_of}
 
--- ---- the loop that settles the rows in place
+-- ---- the loop that settles the rows in place, at its end
 
--- after i turns: the first i rows are settled under the drive's conditions, and nothing else has changed
-pub record Settled (d₀ : Drive) (cs : List Bool) (d : Drive) (i : ℕ) : Type 0 where
-  pub conditions : cs ≡ conditions_of d₀
-  pub rows : Mapped (settle_row cs) 16 d₀.rows d.rows i
-  pub rest : d ≡ with_rows d.rows d₀
-
-pub settle-begin : (d : Drive) (cs : List Bool) → cs ≡ conditions_of d → length d.rows ≡ 16 → Settled d cs d 0
-settle-begin d cs e h = record { conditions = e; rows = map-begin (settle_row cs) 16 d.rows h; rest = refl }
-
--- a turn: the row is settled and stored where it is lockable, and left where it is not
-pub row-settles : (d₀ d x : Drive) (cs : List Bool) (i : ℕ) (z row : Row) → Settled d₀ cs d i → i < 16 → row ≡ settle_row cs (get_or d.rows i z)
-    → x ≡ with_rows (set d.rows i row) d → Settled d₀ cs x (i + 1)
-row-settles d₀ d x cs i z row s h e q = rw q (record {
-  conditions = s.conditions;
-  rows = map-again (settle_row cs) 16 d₀.rows d.rows i row z s.rows h e;
-  rest = ap (λ (y : Drive). with_rows (set d.rows i row) y) s.rest;
-})
-
-pub row_stays : (d₀ d x : Drive) (cs : List Bool) (i : ℕ) (z : Row) (t : Bool) → Settled d₀ cs d i → i < 16 → t ≡ is_lockable (get_or d.rows i z)
-    → t ≡ false → x ≡ d → Settled d₀ cs x (i + 1)
-row_stays d₀ d x cs i z t s h p e q = rw q (record {
-  conditions = s.conditions;
-  rows = map-skip (settle_row cs) 16 d₀.rows d.rows i z s.rows h (not-lockable cs (get_or d.rows i z) t p e);
-  rest = s.rest;
-})
-
-pub settle-done : (d₀ d : Drive) (cs : List Bool) (i : ℕ) → Settled d₀ cs d i → 16 ≤ i → d ≡ settle_of d₀
+pub settle-done : (d : Drive) (cs : List Bool) (rows : List Row) (i : ℕ) → cs ≡ conditions_of d → Mapped (settle_row cs) 16 d.rows rows i → 16 ≤ i
+    → with_rows rows d ≡ settle_of d
 unfolding settle_of
-settle-done d₀ d cs i s h =
-    s.rest
-    ∙ ap (λ (l : List Row). with_rows l d₀)
-    (map-done (settle_row cs) 16 d₀.rows d.rows i s.rows h ∙ ap (λ (x : List Bool). map (settle_row x) d₀.rows) s.conditions)
+settle-done d cs rows i e s h =
+    ap (λ (l : List Row). with_rows l d) (map-done (settle_row cs) 16 d.rows rows i s h ∙ ap (λ (x : List Bool). map (settle_row x) d.rows) e)
 
 -- ---- laws
 

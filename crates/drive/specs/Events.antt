@@ -1,10 +1,11 @@
 -- Document 01: the events, the table of refusals, and what an event makes of a drive.
-use Rattle.std.specs.Prelude.{ℕ, ◌≡◌, Bool, not, cond, ◌&&◌, ◌||◌, List, [], ◌∷◌, map, eqb, ltb, length}
+use Rattle.std.specs.Prelude.{ℕ, ◌≡◌, Bool, not, cond, ◌&&◌, ◌||◌, List, [], ◌∷◌, map, eqb, ltb, length, Result, IfOk}
 use Rattle.base.specs.Ticks.{most_ticks, ticks, stops}
 use Rattle.base.specs.Columns.{named}
-use Rattle.base.specs.Refusals.{Refusal, when, first_of, LowestOf}
+use Rattle.base.specs.Refusals.{TableRow, when, first_of, LowestOf}
 use Rattle.base.specs.Rows.{is_row, modify}
-use Rattle.answer.specs.Numbers.{number_of}
+use Rattle.answer.specs.declared.Refusal.{Refusal}
+use Rattle.answer.specs.Numbers.{answer_number}
 use Rattle.sensor_set.specs.declared.SensorColumns.{SensorColumns}
 use Rattle.sensor.specs.Single.{power_cycle_of}
 use Rattle.sensor_set.specs.declared.SensorEvent.{SensorEvent}
@@ -22,9 +23,8 @@ use Rattle.band_columns.specs.Sets.{formed_row, held_by}
 use Rattle.band_columns.specs.Sets.{columns_fit as band_columns_fit}
 use Rattle.geometry.specs.Events.{place_refusals, transfer_refusals, placed}
 use Rattle.drive.specs.declared.Drive.{Drive}
-use Rattle.drive.specs.declared.Kind.{Kind}
-use Rattle.drive.specs.declared.Kind.TheVariants as K
-use Rattle.drive.specs.declared.Reply.{Reply}
+use Rattle.drive.specs.declared.Event.{Event as LentEvent}
+use Rattle.drive.specs.declared.Event.TheVariants as L
 use Rattle.drive.specs.State.{with_rows, with_spans, with_sensors, conditions_of, row_at, settle_of, tick_of, stop_next}
 
 -- 'Script', the seven events with all their fields. A Set's columns are its mask and a number for each column; a band Set has the
@@ -102,7 +102,7 @@ held_under conditions c new = held_by c new (value_in conditions new)
 -- the refusals of a Set of a row that is there: 2 "out of range: a field exceeds its range" ("an unknown mask bit or more than 1,024
 -- expression bytes gets 2"), 3 "not tokens" and 4 "too long" ("the one met first from the left"), 13 "malformed, right after 3 and 4 and before
 -- 8", 8 "held: an unlock under a TRUE expression"
-abbrev pub row_refusals_if : BandColumns → List ℕ → (held : Bool) → List Refusal
+abbrev pub row_refusals_if : BandColumns → List ℕ → (held : Bool) → List TableRow
 row_refusals_if c bytes held =
     when 2 (not (band_columns_fit c) || ltb most_token_bytes (length bytes))
     ∷ when 3 (eqb (tokens_answer c bytes) 3)
@@ -111,7 +111,7 @@ row_refusals_if c bytes held =
     ∷ when 8 held
     ∷ []
 
-abbrev pub row_refusals : List Bool → BandColumns → List ℕ → Row → List Refusal
+abbrev pub row_refusals : List Bool → BandColumns → List ℕ → Row → List TableRow
 row_refusals conditions c bytes row = row_refusals_if c bytes (held_under conditions c (formed_from c bytes row))
 
 -- "transfer (0 read or 1 write, ..)"
@@ -119,12 +119,12 @@ abbrev pub side_of : ℕ → Side
 side_of direction = cond (eqb direction 0) Read Write
 
 -- 1 "no row: the band or sensor is not below its count"
-abbrev pub no_row : ℕ → ℕ → Refusal
+abbrev pub no_row : ℕ → ℕ → TableRow
 no_row count i = when 1 (not (is_row count i))
 
 -- each event's own list; 2 "out of range: a field exceeds its range" of the ticks, of a reset's type and of a direction. The events on one
 -- sensor, a reading and a Set, have theirs after 1 (`sensor_refusals`).
-abbrev pub refusals_by : Drive → Shape → List Refusal
+abbrev pub refusals_by : Drive → Shape → List TableRow
 refusals_by d (ticking n) = when 2 (ltb most_ticks n) ∷ []
 refusals_by d (resetting t) = when 2 (ltb last_reset_type t) ∷ []
 refusals_by d (setting b c bytes) = no_row d.band_count b ∷ row_refusals (conditions_of d) c bytes (row_at d b)
@@ -133,7 +133,7 @@ refusals_by d (placing b start n) = place_refusals d.capacity d.band_count d.spa
 refusals_by d (looking w start n) =
     when 2 (ltb 1 w) ∷ transfer_refusals d.capacity d.band_count d.spans (map (closed_on (side_of w)) d.rows) start n
 
-abbrev pub refusals : Drive → Event → List Refusal
+abbrev pub refusals : Drive → Event → List TableRow
 refusals d e = refusals_by d (shape_of e)
 
 -- "0 done: nothing below applies"
@@ -174,23 +174,23 @@ elapsed_stops d e = if_ticking (shape_of e) (λ n. stops tick_of stop_next n d) 
 unfoldable pub stops_of : Drive → Event → ℕ
 stops_of d e = cond (eqb (answer_of d e) 0) (elapsed_stops d e) 0
 
--- What an event hands back, on every drive.
-pub record Replies (d : Drive) (e : Event) (r : Reply) : Type 0 where
-  pub answer : number_of r.answer ≡ answer_of d e
-  pub stops : r.stops ≡ stops_of d e
-  pub drive : r.drive ≡ step_of d e
+-- What an event hands back and the drive after it, on every drive.
+pub record Replies (d : Drive) (e : Event) (r : Result ℕ Refusal) (after : Drive) : Type 0 where
+  pub answer : answer_number r ≡ answer_of d e
+  pub stops : IfOk r (λ n. n ≡ stops_of d e)
+  pub drive : after ≡ step_of d e
   -- "The lowest number that applies is given", 13 in its place
-  pub lowest : LowestOf (refusals d e) (number_of r.answer)
+  pub lowest : LowestOf (refusals d e) (answer_number r)
 
--- the event that a kind and the bytes beside it are; only a band Set looks at the bytes
-abbrev pub event_of : Kind → List ℕ → Event
-event_of (K.Reading s v) bytes = reading s v
-event_of (K.Elapse n) bytes = elapse n
-event_of (K.Reset t) bytes = reset t
-event_of (K.SensorSet s c) bytes = sensor_set s c
-event_of (K.BandSet b c) bytes = band_set b c bytes
-event_of (K.Geometry b start n) bytes = geometry b start n
-event_of (K.Transfer w start n) bytes = transfer w start n
+-- the event that one with its expression lent is
+abbrev pub event_in : LentEvent → Event
+event_in (L.Reading s v) = reading s v
+event_in (L.Elapse n) = elapse n
+event_in (L.Reset t) = reset t
+event_in (L.SensorSet s c) = sensor_set s c
+event_in (L.BandSet b c tokens) = band_set b c tokens.now
+event_in (L.Geometry b span) = geometry b span.start span.length
+event_in (L.Transfer w range) = transfer w range.start range.length
 
 -- "each event, whatever its kind and answer, gets the drive that the last one left"
 unfoldable pub run_of : Drive → List Event → Drive

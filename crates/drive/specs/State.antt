@@ -1,7 +1,7 @@
 -- Document 01, 'The drive and its refusals' and 'Bands': the drive's state, the fresh drive, settling and ticks.
 use Rattle.std.specs.Prelude.{ℕ, ◌≡◌, Bool, cond, ◌&&◌, List, map, leb, length, replicate, get_or}
 use Rattle.base.specs.Lists.{any}
-use Rattle.answer.specs.Numbers.{number_of}
+use Rattle.answer.specs.Numbers.{answer_number}
 use Rattle.sensor.specs.declared.single.Sensor.{Sensor}
 use Rattle.sensor.specs.Single.{fresh_sensor, ends_next}
 use Rattle.sensor.specs.Single.{sensor_tick}
@@ -45,7 +45,7 @@ abbrev pub fresh_of : ℕ → ℕ → ℕ → Drive
 fresh_of capacity bands sensors = cond (header_fits capacity bands sensors) (fresh_drive capacity bands sensors) (fresh_drive 1 1 0)
 
 pub record Freshens (capacity bands sensors : ℕ) (r : Fresh) : Type 0 where
-  pub answer : number_of r.answer ≡ cond (header_fits capacity bands sensors) 0 2
+  pub answer : answer_number r.answer ≡ cond (header_fits capacity bands sensors) 0 2
   pub drive : r.drive ≡ fresh_of capacity bands sensors
 
 -- the drive with other rows, other spans or other sensors

@@ -2,14 +2,13 @@
 // drive that the last one left. Prints for each a line with its number and then the listing of document 01. Then calls that no script makes.
 #![tactic(auto)]
 
-use answer::Answer;
 use band::Row;
 use band_columns::BandColumns;
-use drive::{Drive, Kind};
-use evaluator::Evaluation;
-use event_reader::EventRead;
+use cases::Cases;
+use drive::{Drive, Event, Header};
 use expression::Expression;
-use script::HeaderRead;
+use geometry::Span;
+use reader::Reader;
 use sensor::Sensor;
 use sensor_set::SensorColumns;
 
@@ -29,157 +28,79 @@ const NOT_SECOND: [u8; 22] =
 const AND_ALONE: [u8; 10] = *b"\xF0\xF2\xA4\x00\x00\x04\x0E\x00\xF3\xF1";
 
 // What is printed is held to the file stdout, which also shows a write that failed.
-fn print(rt: &impl Print, text: &[u8]) {
-    let _ = rt.write_all(text);
+
+fn print_band(rt: &impl Print, number: usize, row: &Row, conditions: &[bool; 16]) {
+    let value = u8::from(row.value(conditions).is_true());
+    let _ = println!(rt;
+        "b {number} {} {} {value}",
+        u8::from(row.read_locked),
+        u8::from(row.write_locked)
+    );
 }
 
-fn print_next(rt: &impl Print, n: u64) {
-    print(rt, b" ");
-    let _ = rt.print(n);
+fn print_sensor(rt: &impl Print, number: usize, s: &Sensor) {
+    let _ = println!(rt;
+        "s {number} {} {} {} {}",
+        u8::from(s.level),
+        s.phase.number(),
+        u8::from(s.condition),
+        s.timer
+    );
 }
 
-fn print_bit(rt: &impl Print, b: bool) {
-    if b {
-        print_next(rt, 1);
-    } else {
-        print_next(rt, 0);
-    }
-}
-
-// As the listing has it: 1 for TRUE.
-fn print_value(rt: &impl Print, v: Evaluation) {
-    print_bit(rt, v.is_true());
-}
-
-fn print_answer(rt: &impl Print, answer: Answer) {
-    print_next(rt, answer.number() as u64);
-}
-
-fn print_event(rt: &impl Print, index: usize, answer: Answer, stops: u64) {
-    print(rt, b"e");
-    print_next(rt, index as u64);
-    print_answer(rt, answer);
-    print_next(rt, stops);
-    print(rt, b"\n");
-}
-
-fn print_band(rt: &impl Print, number: usize, row: Row, conditions: [bool; 16]) {
-    print(rt, b"b");
-    print_next(rt, number as u64);
-    print_bit(rt, row.read_locked);
-    print_bit(rt, row.write_locked);
-    print_value(rt, row.value(conditions));
-    print(rt, b"\n");
-}
-
-fn print_bands(rt: &impl Print, drive: Drive) {
+// The bands and the sensors, as the listing has them.
+fn print_drive(rt: &impl Print, drive: &Drive) {
     let conditions = drive.conditions();
-    let rows = drive.rows;
-    for i in 0..16 {
-        if drive.band_count <= i {
-            return;
-        }
-        let row = rows[i];
-        print_band(rt, i, row, conditions);
+    for (number, row) in drive.rows.iter().enumerate().take(drive.band_count) {
+        print_band(rt, number, row, &conditions);
+    }
+    for (number, sensor) in drive.sensors.iter().enumerate().take(drive.sensor_count) {
+        print_sensor(rt, number, sensor);
     }
 }
 
-fn print_sensor(rt: &impl Print, number: usize, s: Sensor) {
-    let phase = s.phase;
-    print(rt, b"s");
-    print_next(rt, number as u64);
-    print_bit(rt, s.level);
-    print_next(rt, phase.number() as u64);
-    print_bit(rt, s.condition);
-    print_next(rt, s.timer as u64);
-    print(rt, b"\n");
+// Runs an event, and prints its line.
+fn run_event(rt: &impl Print, drive: &mut Drive, index: usize, event: Event<'_>) {
+    let answer = events::apply(drive, event);
+    let _ = println!(rt;
+        "e {index} {} {}",
+        answer::number(answer),
+        answer.unwrap_or(0)
+    );
 }
 
-fn print_sensors(rt: &impl Print, drive: Drive) {
-    let all = drive.sensors;
-    for i in 0..16 {
-        if drive.sensor_count <= i {
+// Each event has two bytes at least, so that no script has as many as bytes.
+fn run_script(rt: &impl Print, reader: Reader<'_>, drive: &mut Drive) {
+    let mut rest = reader;
+    for index in 0..rest.script.len() {
+        let Some(event) = event_reader::event(&mut rest) else {
             return;
-        }
-        let s = all[i];
-        print_sensor(rt, i, s);
-    }
-}
-
-fn title(rt: &impl Print, number: usize) {
-    print(rt, b"run");
-    print_next(rt, number as u64);
-    print(rt, b"\n");
-}
-
-// Prints an event's line, and hands back the drive that it left.
-fn after(rt: &impl Print, drive: Drive, index: usize, kind: Kind, tokens: &[u8]) -> Drive {
-    let reply = events::apply(drive, kind, tokens);
-    let answer = reply.answer;
-    print_event(rt, index, answer, reply.stops);
-    let left = reply.drive;
-    left
-}
-
-fn end(rt: &impl Print, drive: Drive) {
-    print_bands(rt, drive);
-    print_sensors(rt, drive);
-}
-
-// The events from a place on: each has two bytes at least, so that no script has as many as bytes.
-fn run_from(rt: &impl Print, script: &[u8], start: usize, fresh: Drive) -> Drive {
-    let most = script.len();
-    let mut drive = fresh;
-    let mut at = start;
-    for index in 0..most {
-        let EventRead::Is {
-            kind,
-            start: place,
-            count: size,
-            next,
-        } = reader::next_event(script, at)
-        else {
-            return drive;
         };
-        let tokens = event_reader::tokens_at(script, place, size);
-        drive = after(rt, drive, index, kind, tokens);
-        at = next;
+        run_event(rt, drive, index, event);
     }
-    drive
 }
 
 fn case(rt: &impl Print, number: usize, script: &[u8]) {
-    title(rt, number);
-    let HeaderRead::Is {
-        capacity,
-        bands,
-        sensors,
-        next: at,
-    } = script::header_at(script)
-    else {
+    let _ = println!(rt; "run {number}");
+    let mut reader = Reader::new(script, 0);
+    let Some(header) = script::header(&mut reader) else {
         return;
     };
-    let fresh = Drive::fresh(capacity, bands, sensors);
-    let drive = fresh.drive;
-    end(rt, run_from(rt, script, at, drive));
-}
-
-fn all_cases(rt: &impl Print, input: &[u8], count: usize) {
-    for number in 0..count {
-        let script = cases::case_of(input, number);
-        case(rt, number, script);
-    }
+    let mut drive = Drive::fresh(header).drive;
+    run_script(rt, reader, &mut drive);
+    print_drive(rt, &drive);
 }
 
 // Runs every case of the input, and says how many there were and what is left over.
 fn run(rt: &(impl Print + Input), input: &[u8]) {
-    let held = cases::held(input);
-    all_cases(rt, input, held.count);
+    for (number, script) in Cases::new(input) {
+        case(rt, number, script);
+    }
     cases::print_end(rt, b"drive_test", input);
 }
 
-// A band Set whose columns that the mask does not name have a value out of range.
-fn set(mask: u64, value: u64) -> BandColumns {
+// The same value in each column, also in those that the mask does not name.
+fn band_columns(mask: u64, value: u64) -> BandColumns {
     BandColumns {
         mask,
         read_lock_enabled: value,
@@ -190,7 +111,7 @@ fn set(mask: u64, value: u64) -> BandColumns {
     }
 }
 
-fn sensor_set(mask: u64, value: u64) -> SensorColumns {
+fn sensor_columns(mask: u64, value: u64) -> SensorColumns {
     SensorColumns {
         mask,
         enabled: value,
@@ -203,68 +124,81 @@ fn sensor_set(mask: u64, value: u64) -> SensorColumns {
     }
 }
 
-fn after_set(
-    rt: &impl Print,
-    drive: Drive,
-    index: usize,
-    band: u64,
-    columns: BandColumns,
-    tokens: &[u8],
-) -> Drive {
-    after(rt, drive, index, Kind::BandSet { band, columns }, tokens)
+fn set_band<'a>(band: u64, mask: u64, value: u64, tokens: &'a [u8]) -> Event<'a> {
+    Event::BandSet {
+        band,
+        columns: band_columns(mask, value),
+        tokens,
+    }
 }
 
-fn after_sensor_set(
-    rt: &impl Print,
-    drive: Drive,
-    index: usize,
-    sensor: u64,
-    columns: SensorColumns,
-) -> Drive {
-    after(rt, drive, index, Kind::SensorSet { sensor, columns }, b"")
+fn set_sensor<'a>(sensor: u64, mask: u64, value: u64) -> Event<'a> {
+    Event::SensorSet {
+        sensor,
+        columns: sensor_columns(mask, value),
+    }
 }
 
-// Unknown mask bits, on a row that is there and on one that is not, and values that the mask does not name.
-fn unknown_bits(rt: &impl Print, drive: Drive) -> Drive {
-    let d = after_set(rt, drive, 0, 0, set(64, 0), b"");
-    let d = after_set(rt, d, 1, 0, set(MOST, 1), b"\xF0\xF1");
-    let d = after_set(rt, d, 2, 1, set(64, 0), b"");
-    let d = after_sensor_set(rt, d, 3, 0, sensor_set(128, 1));
-    let d = after_sensor_set(rt, d, 4, 1, sensor_set(128, 1));
-    let d = after_sensor_set(rt, d, 5, 0, sensor_set(0, MOST));
-    after_set(rt, d, 6, 0, set(0, MOST), b"\xF0")
+// A read of so many blocks.
+fn transfer<'a>(start: u64, length: u64) -> Event<'a> {
+    Event::Transfer {
+        direction: 0,
+        range: Span { start, length },
+    }
 }
 
-// More than 1,024 token bytes, named or not; then as many as there may be.
-fn many_bytes(rt: &impl Print, drive: Drive) -> Drive {
+fn fresh(bands: u64, sensors: u64) -> Drive {
+    Drive::fresh(Header {
+        capacity: 1_000,
+        bands,
+        sensors,
+    })
+    .drive
+}
+
+// Unknown mask bits, on a row that is there and on one that is not, and values that the mask does not name. Then more than 1,024 token bytes,
+// named or not; then as many as there may be.
+fn outside_a_script(rt: &impl Print) {
+    let _ = println!(rt; "outside");
     let more = [0xF0; 1_025];
     let most = [0xF0; 1_024];
-    let d = after_set(rt, drive, 7, 0, set(33, 1), &more);
-    let d = after_set(rt, d, 8, 0, set(1, 1), &more);
-    let d = after_set(rt, d, 9, 0, set(0, 0), &more);
-    let d = after_set(rt, d, 10, 1, set(32, 0), &more);
-    let d = after_set(rt, d, 11, 0, set(37, 1), &most);
-    after_set(rt, d, 12, 0, set(8, 1), &most)
-}
-
-fn outside_a_script(rt: &impl Print) {
-    let fresh = Drive::fresh(1_000, 1, 1);
-    let drive = fresh.drive;
-    print(rt, b"outside\n");
-    end(rt, many_bytes(rt, unknown_bits(rt, drive)));
+    let events = [
+        set_band(0, 64, 0, b""),
+        set_band(0, MOST, 1, b"\xF0\xF1"),
+        set_band(1, 64, 0, b""),
+        set_sensor(0, 128, 1),
+        set_sensor(1, 128, 1),
+        set_sensor(0, 0, MOST),
+        set_band(0, 0, MOST, b"\xF0"),
+        set_band(0, 33, 1, &more),
+        set_band(0, 1, 1, &more),
+        set_band(0, 0, 0, &more),
+        set_band(1, 32, 0, &more),
+        set_band(0, 37, 1, &most),
+        set_band(0, 8, 1, &most),
+    ];
+    let mut drive = fresh(1, 1);
+    for (index, event) in events.into_iter().enumerate() {
+        run_event(rt, &mut drive, index, event);
+    }
+    print_drive(rt, &drive);
 }
 
 // A header's answer, and the capacity and the counts of its drive.
 fn header(rt: &impl Print, capacity: u64, bands: u64, sensors: u64) {
-    let fresh = Drive::fresh(capacity, bands, sensors);
-    let answer = fresh.answer;
+    let fresh = Drive::fresh(Header {
+        capacity,
+        bands,
+        sensors,
+    });
     let drive = fresh.drive;
-    print(rt, b"h");
-    print_answer(rt, answer);
-    print_next(rt, drive.capacity);
-    print_next(rt, drive.band_count as u64);
-    print_next(rt, drive.sensor_count as u64);
-    print(rt, b"\n");
+    let _ = println!(rt;
+        "h {} {} {} {}",
+        answer::number(fresh.answer),
+        drive.capacity,
+        drive.band_count,
+        drive.sensor_count
+    );
 }
 
 fn headers(rt: &impl Print) {
@@ -280,138 +214,95 @@ fn headers(rt: &impl Print) {
 
 // The drive of a header out of range.
 fn least_drive(rt: &impl Print) {
-    let fresh = Drive::fresh(1_000, 17, 2);
-    let drive = fresh.drive;
-    let d = after(
-        rt,
-        drive,
-        0,
-        Kind::Reading {
+    let events = [
+        Event::Reading {
             sensor: 0,
             value: 0,
         },
-        b"",
-    );
-    let d = after(
-        rt,
-        d,
-        1,
-        Kind::Geometry {
+        Event::Geometry {
             band: 1,
-            start: 0,
-            length: 0,
+            span: Span::none(),
         },
-        b"",
-    );
-    let d = after_set(rt, d, 2, 0, set(36, 1), &ALWAYS);
-    let d = after(
-        rt,
-        d,
-        3,
-        Kind::Transfer {
-            direction: 0,
-            start: 0,
-            count: 1,
-        },
-        b"",
-    );
-    let d = after(
-        rt,
-        d,
-        4,
-        Kind::Transfer {
-            direction: 0,
-            start: 1,
-            count: 0,
-        },
-        b"",
-    );
-    let d = after(
-        rt,
-        d,
-        5,
-        Kind::Transfer {
-            direction: 0,
-            start: 0,
-            count: 2,
-        },
-        b"",
-    );
-    end(rt, d);
+        set_band(0, 36, 1, &ALWAYS),
+        transfer(0, 1),
+        transfer(1, 0),
+        transfer(0, 2),
+    ];
+    let mut drive = fresh(17, 2);
+    for (index, event) in events.into_iter().enumerate() {
+        run_event(rt, &mut drive, index, event);
+    }
+    print_drive(rt, &drive);
 }
 
 // A drive that no script leaves: the read side of its band is enabled under AND alone.
 fn malformed_row() -> Drive {
-    let fresh = Drive::fresh(1_000, 1, 0);
-    let mut made = fresh.drive;
-    let mut expression = Expression::empty();
-    expression.count = 1;
-    let mut row = made.rows[0];
-    row.read_lock_enabled = true;
-    row.expression = expression;
-    made.rows[0] = row;
-    made
+    let mut drive = fresh(1, 0);
+    drive.rows[0] = Row {
+        read_lock_enabled: true,
+        expression: Expression {
+            count: 1,
+            ..Expression::empty()
+        },
+        ..drive.rows[0]
+    };
+    drive
 }
 
 // Such a row is not under a TRUE expression: a transfer and an unlock are done. A Set is judged by the expression that it names, and by no other.
 fn stored_malformed(rt: &impl Print) {
-    print(rt, b"malformed\n");
-    let d = after(
-        rt,
-        malformed_row(),
-        0,
-        Kind::Transfer {
-            direction: 0,
-            start: 0,
-            count: 1,
-        },
-        b"",
-    );
-    let d = after_set(rt, d, 1, 0, set(4, 0), b"");
-    let d = after_set(rt, d, 2, 0, set(2, 1), &AND_ALONE);
-    let d = after_set(rt, d, 3, 0, set(32, 0), &AND_ALONE);
-    let d = after_set(rt, d, 4, 1, set(32, 0), &AND_ALONE);
-    let d = after_set(rt, d, 5, 0, set(48, 16), &AND_ALONE);
-    end(rt, d);
-    let d = after_set(rt, d, 6, 0, set(36, 1), &ALWAYS);
-    let d = after_set(rt, d, 7, 0, set(36, 0), &AND_ALONE);
-    let d = after_set(rt, d, 8, 0, set(4, 0), &AND_ALONE);
-    let d = after_set(rt, d, 9, 0, set(36, 0), b"\xF0\xF1");
-    end(rt, d);
+    let _ = println!(rt; "malformed");
+    let events = [
+        transfer(0, 1),
+        set_band(0, 4, 0, b""),
+        set_band(0, 2, 1, &AND_ALONE),
+        set_band(0, 32, 0, &AND_ALONE),
+        set_band(1, 32, 0, &AND_ALONE),
+        set_band(0, 48, 16, &AND_ALONE),
+        set_band(0, 36, 1, &ALWAYS),
+        set_band(0, 36, 0, &AND_ALONE),
+        set_band(0, 4, 0, &AND_ALONE),
+        set_band(0, 36, 0, b"\xF0\xF1"),
+    ];
+    let mut drive = malformed_row();
+    for (index, event) in events.into_iter().enumerate() {
+        if index == 6 {
+            print_drive(rt, &drive);
+        }
+        run_event(rt, &mut drive, index, event);
+    }
+    print_drive(rt, &drive);
 }
 
 // A drive of one band whose read side is enabled and has an expression, and of sixteen sensors that are all TRUE. Nothing has settled.
 fn guarded(tokens: &[u8]) -> Drive {
-    let fresh = Drive::fresh(1_000, 1, 16);
-    let drive = fresh.drive;
-    let reply = events::set_band(drive, 0, set(32, 0), tokens);
-    let mut made = reply.drive;
-    let mut s = Sensor::fresh();
-    s.condition = true;
-    made.sensors = [s; 16];
-    let mut row = made.rows[0];
-    row.read_lock_enabled = true;
-    made.rows[0] = row;
-    made
+    let mut drive = fresh(1, 16);
+    let _ = events::set_band(&mut drive, 0, band_columns(32, 0), tokens);
+    let sensor = Sensor {
+        condition: true,
+        ..Sensor::fresh()
+    };
+    drive.sensors = [sensor; 16];
+    drive.rows[0].read_lock_enabled = true;
+    drive
 }
 
 // The drive with so many sensors there: after a transfer of nothing, what an unlock is answered, ReadLocked and the value.
-fn count_sensors(rt: &impl Print, drive: Drive, count: usize) {
-    let mut counted = drive;
-    counted.sensor_count = count;
-    let moved = events::transfer(counted, 0, 0, 0);
-    let settled = moved.drive;
-    let reply = events::set_band(settled, 0, set(4, 0), b"");
-    let answer = reply.answer;
-    let left = reply.drive;
-    let rows = left.rows;
-    let row = rows[0];
-    print(rt, b"n");
-    print_next(rt, count as u64);
-    print_answer(rt, answer);
-    print_bit(rt, row.read_locked);
-    print_value(rt, row.value(left.conditions()));
-    print(rt, b"\n");
+fn count_sensors(rt: &impl Print, guarded: Drive, count: usize) {
+    let mut drive = Drive {
+        sensor_count: count,
+        ..guarded
+    };
+    let _ = events::transfer(&mut drive, 0, Span::none());
+    let answer = events::set_band(&mut drive, 0, band_columns(4, 0), b"");
+    let row = drive.rows[0];
+    let value = row.value(&drive.conditions());
+    let _ = println!(rt;
+        "n {count} {} {} {}",
+        answer::number(answer),
+        u8::from(row.read_locked),
+        u8::from(value.is_true())
+    );
 }
 
 // 0 to 17 sensors, and as many as can be said.
@@ -419,47 +310,32 @@ fn counts(rt: &impl Print, drive: Drive) {
     for count in 0..18 {
         count_sensors(rt, drive, count);
     }
-    count_sensors(rt, drive, MOST as usize);
+    count_sensors(rt, drive, usize::MAX);
 }
 
 // A drive of one band whose read side is enabled.
 fn enabled() -> Drive {
-    let fresh = Drive::fresh(1_000, 1, 0);
-    let drive = fresh.drive;
-    let reply = events::set_band(drive, 0, set(1, 1), b"");
-    reply.drive
+    let mut drive = fresh(1, 0);
+    let _ = events::set_band(&mut drive, 0, band_columns(1, 1), b"");
+    drive
 }
 
-// What a reset of a type is answered, and ReadLocked after it.
-fn after_reset(rt: &impl Print, drive: Drive, reset_type: u64) {
-    let reply = events::reset(drive, reset_type);
-    let answer = reply.answer;
-    let left = reply.drive;
-    let rows = left.rows;
-    let row = rows[0];
-    print_answer(rt, answer);
-    print_bit(rt, row.read_locked);
-}
-
-// Each type, and one that there is not.
+// What a reset of each type is answered, and ReadLocked after it; also of one that there is not.
 fn all_resets(rt: &impl Print, drive: Drive) {
-    after_reset(rt, drive, 0);
-    after_reset(rt, drive, 1);
-    after_reset(rt, drive, 2);
-    after_reset(rt, drive, 3);
-    after_reset(rt, drive, 4);
-    print(rt, b"\n");
+    for reset_type in 0..5 {
+        let mut after = drive;
+        let answer = events::reset(&mut after, reset_type);
+        let row = after.rows[0];
+        let _ = print!(rt; " {} {}", answer::number(answer), u8::from(row.read_locked));
+    }
+    let _ = println!(rt);
 }
 
 // A Set of LockOnReset: what it is answered, and then the resets.
-fn take_set(rt: &impl Print, drive: Drive, value: u64) {
-    let reply = events::set_band(drive, 0, set(16, value), b"");
-    let answer = reply.answer;
-    let left = reply.drive;
-    print(rt, b"k");
-    print_next(rt, value);
-    print_answer(rt, answer);
-    all_resets(rt, left);
+fn take_set(rt: &impl Print, mut drive: Drive, value: u64) {
+    let answer = events::set_band(&mut drive, 0, band_columns(16, value), b"");
+    let _ = print!(rt; "k {value} {}", answer::number(answer));
+    all_resets(rt, drive);
 }
 
 // 0 to 17, and as many as can be said.
@@ -471,14 +347,10 @@ fn take_sets(rt: &impl Print, drive: Drive) {
 }
 
 // The resets on a drive that no script leaves, whose LockOnReset is above the greatest set.
-fn hold_set(rt: &impl Print, drive: Drive, value: u64) {
-    let mut made = drive;
-    let mut row = made.rows[0];
-    row.lock_on_reset = value;
-    made.rows[0] = row;
-    print(rt, b"l");
-    print_next(rt, value);
-    all_resets(rt, made);
+fn hold_set(rt: &impl Print, mut drive: Drive, value: u64) {
+    drive.rows[0].lock_on_reset = value;
+    let _ = print!(rt; "l {value}");
+    all_resets(rt, drive);
 }
 
 fn main(rt: HostRuntime) {

@@ -6,15 +6,14 @@ use Rattle.base.specs.Ticks.{stops as stops_in}
 use Rattle.sensor.specs.Single.{runs}
 use Rattle.drive.specs.declared.Drive.{Drive}
 use Rattle.drive.specs.State.{tick_of, stop_next}
-use Rattle.elapse.specs.declared.Elapsed.{Elapsed}
 
 -- the timers that run
 abbrev pub running : Drive → ℕ
 running d = count runs d.sensors
 
--- What an elapse of n hands back: the drive after n ticks and the count of its stops, "which is at most the number of timers running at
--- its start".
-pub record Elapses (n : ℕ) (d : Drive) (r : Elapsed) : Type 0 where
-  pub drive : r.drive ≡ ticks tick_of n d
-  pub stops : r.stops ≡ stops_in tick_of stop_next n d
-  pub few : r.stops ≤ running d
+-- What an elapse of n hands back and leaves: the drive after n ticks and the count of its stops, "which is at most the number of timers
+-- running at its start".
+pub record Elapses (n : ℕ) (d : Drive) (r : ℕ) (after : Drive) : Type 0 where
+  pub drive : after ≡ ticks tick_of n d
+  pub stops : r ≡ stops_in tick_of stop_next n d
+  pub few : r ≤ running d

@@ -1,4 +1,3 @@
-pub mod Bits
-pub mod Runs
+pub mod Walk
 pub mod Mentions
 pub mod Formed

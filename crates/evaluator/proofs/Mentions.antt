@@ -1,10 +1,10 @@
 -- The value depends only on the conditions of the rows that the elements refer to.
-use Prim.Native.Nat.{ℕ}
-use mathlib.Core.Path.{◌≡◌, refl, sym, ap, ◌∙◌}
-use mathlib.Core.Bool.{Bool, true}
+use Prim.Native.Nat.{ℕ, ◌≤◌}
+use mathlib.Core.Path.{◌≡◌, refl, sym}
+use mathlib.Core.Bool.{Bool, true, false}
 use mathlib.Core.List.{List, [], ◌∷◌}
 use mathlib.Core.Option.{Option, none, some}
-use lib.ListN.{take}
+use lib.ListN.{length, get_or-eq_default}
 use borrow.Author.Tests.{eq-eqb}
 use Rattle.base.specs.Lists.{any}
 use Rattle.base.proofs.Cases.{or_yes, or-second}
@@ -42,6 +42,6 @@ pub value-empty : (cs : List Bool) → value_of cs [] ≡ False
 unfolding value_of
 value-empty cs = refl
 
--- of no elements
-pub none-taken : (cs : List Bool) (es : List Element) (n : ℕ) → n ≡ 0 → False ≡ value_of cs (take n es)
-none-taken cs es n e = sym (ap (λ (k : ℕ). value_of cs (take k es)) e ∙ value-empty cs)
+-- a row of which there is no condition
+pub absent : (cs : List Bool) (row : ℕ) → length cs ≤ row → false ≡ condition_at cs row
+absent cs row h = sym (get_or-eq_default cs false h)

@@ -1,29 +1,21 @@
--- How the evaluator holds a stack in the bits of a number.
-use Rattle.std.specs.Prelude.{ℕ, ◌+◌, ◌*◌, ◌≡◌, Bool, cond, List, [], ◌∷◌, ltb}
-use Rattle.std.proofs.Math.Option.{Option, none, some}
-use Rattle.base.specs.Lists.{one_if}
-use Rattle.expression.specs.Elements.{most_elements}
-use Rattle.evaluator.specs.declared.Evaluation.{Evaluation}
-use Rattle.evaluator.specs.Value.{on_stack, end_of}
+-- What the parts of the evaluator do to the stack, for the contracts of private functions.
+use Rattle.std.specs.Prelude.{◌≡◌, Bool, List, ◌∷◌, Option, Some, None}
+use Rattle.std.proofs.Common.{reverse}
+use Rattle.std.proofs.Math.Option as maybe
+use Rattle.arrayvec.specs.ArrayVec.{ArrayVec}
+use Rattle.evaluator.specs.Value.{on_two}
 
--- the last value lowest, and a 1 above the first
-abbrev pub bits_of : List Bool → ℕ
-bits_of [] = 1
-bits_of (v ∷ stack) = bits_of stack * 2 + one_if v
+-- the stack whose head is the last value put
+abbrev pub stack_in : ArrayVec Bool → List Bool
+stack_in stack = reverse stack.items
 
--- 0 once the list is malformed
-abbrev pub held_as : Option (List Bool) → ℕ
-held_as none = 0
-held_as (some stack) = bits_of stack
+-- what a function answers, and the stack that it leaves of `old`, where that should be f's: with None the stack does not count
+abbrev pub Does : {A : Type 0} → (List Bool → maybe.Option (List Bool)) → List Bool → Option A → List Bool → Type 0
+Does f old (Some done) new = f old ≡ maybe.some new
+Does f old None new = f old ≡ maybe.none
 
--- r is the number after f, where n is the number before it, whatever stack that holds
-abbrev pub Does : (List Bool → Option (List Bool)) → ℕ → ℕ → Type 0
-Does f n r = (stack : Option (List Bool)) → n ≡ held_as stack → r ≡ held_as (on_stack f stack)
-
--- the elements that a count counts, of those that there is room for
-abbrev pub at_most_all : ℕ → ℕ
-at_most_all count = cond (ltb count most_elements) count most_elements
-
--- v is the value at the end, where n is the number there, whatever stack that holds
-abbrev pub Ends : ℕ → Evaluation → Type 0
-Ends n v = (stack : Option (List Bool)) → n ≡ held_as stack → v ≡ end_of stack
+-- the same of an operator on two values of which it is known what it gives: `gives a b v`, where b is the last
+abbrev pub DoesTwo : {A : Type 0} → (Bool → Bool → Bool → Type 0) → List Bool → Option A → List Bool → Type 0
+DoesTwo gives old (Some done) new =
+    (rest : List Bool) × (a : Bool) × (b : Bool) × (v : Bool) × (old ≡ b ∷ a ∷ rest) × gives a b v × (new ≡ v ∷ rest)
+DoesTwo gives old None new = (f : Bool → Bool → Bool) → on_two f old ≡ maybe.none

@@ -1,18 +1,19 @@
-// The value of an expression (document 01, 'Value of an expression'; 002, 3.2.4): TRUE, FALSE or malformed (document 02, #104).
-//
-// The stack is the bits of a number: the last value lowest, and a 1 above the first. It is 0 once the list is malformed.
+//! The value of an expression under the conditions of the sensors' rows: TRUE, FALSE or malformed.
 #![tactic(auto)]
 
-ghost use Rattle.std.specs.Prelude.{◌≡◌, ◌&&◌, ◌||◌, not, ◌<◌, take, ◌∷◌};
-ghost use Rattle.evaluator.specs.Value.{condition_at, on_two, on_one, operator_of, put_element, value_of, is_true};
+ghost use Rattle.std.specs.Prelude.{◌≡◌, ◌+◌, ◌<◌, ◌≤◌, ◌&&◌, ◌||◌, not};
+ghost use Rattle.arrayvec.specs.ArrayVec.{array_vec_len};
 ghost use Rattle.std.proofs.Math.Option.{some};
-ghost use Rattle.evaluator.specs.Parts.{Does, Ends, at_most_all};
+ghost use Rattle.evaluator.specs.Value.{condition_at, on_one, operator_of, put_element, value_of, is_true, end_of};
+ghost use Rattle.evaluator.specs.Parts.{stack_in, Does, DoesTwo};
 ghost use Rattle.expression.specs.Elements.{elements_in};
 
-use expression::{Element, Expression, Part};
+use arrayvec::ArrayVec;
+use expression::{Expression, Part};
 
-// What evaluation says of a list of elements.
-#[derive(Clone, Copy)]
+/// What evaluation says of a list of elements.
+// stays: (4) an `Option<bool>` would not say what its None is.
+#[derive(Clone, Copy, Debug, PartialEq, Eq)]
 pub enum Evaluation {
     True,
     False,
@@ -20,145 +21,101 @@ pub enum Evaluation {
 }
 
 impl Evaluation {
-    // Whether it is TRUE: malformed is not.
+    /// Whether it is TRUE: malformed is not.
     pub fn is_true(self) -> bool
         ensures { result ≡ is_true self }
     {
-        match self {
-            Evaluation::True => true,
-            Evaluation::False => false,
-            Evaluation::Malformed => false,
-        }
+        matches!(self, Evaluation::True)
     }
 }
 
-// The condition of a row, FALSE where the row is absent. The conditions are lent to the walk: by value they would be copied at each reference.
-fn condition(conditions: &[bool], row: u32) -> bool
+/// The values that wait for an operator, the last one at the end: as many as there are elements, if all are references.
+type Stack = ArrayVec<bool, 32>;
+
+/// The condition of a row, FALSE where the row is absent.
+fn condition(conditions: &[bool; 16], row: u32) -> bool
     ensures { result ≡ condition_at conditions.now row }
 {
-    let at = row as usize;
-    if at < conditions.len() {
-        return conditions[at];
-    }
-    false
+    conditions.get(row as usize).copied().unwrap_or(false)
 }
 
-fn push(stack: u64, condition: bool) -> u64
-    requires { stack < 4294967296 }
-    ensures { Does (λ s. some (condition ∷ s)) stack result }
+/// An operator on the last two values, in their place. None: there are fewer.
+fn on_two<F: Fn(bool, bool) -> bool>(stack: &mut Stack, operator: F) -> Option<()>
+    requires callable { F.IsAlwaysCallable operator }
+    requires room { array_vec_len stack.old ≤ 32 }
+    ensures value { DoesTwo (F.post operator) (stack_in stack.old) result (stack_in stack.new) }
+    ensures few { array_vec_len stack.new ≤ array_vec_len stack.old }
 {
-    if stack == 0 {
-        return 0;
-    }
-    if condition {
-        return stack * 2 + 1;
-    }
-    stack * 2
+    let second = stack.pop()?;
+    let first = stack.pop()?;
+    stack.push(operator(first, second));
+    Some(())
 }
 
-// The stack after an operator that runs short.
-const SHORT: u64 = 0;
-
-// AND of the last two values, in their place.
-fn and_two(stack: u64) -> u64
-    ensures { Does (on_two ◌&&◌) stack result }
+/// NOT of the last value, in its place. None: there is none.
+fn on_one(stack: &mut Stack) -> Option<()>
+    requires { array_vec_len stack.old ≤ 32 }
+    ensures value { Does (on_one not) (stack_in stack.old) result (stack_in stack.new) }
+    ensures few { array_vec_len stack.new ≤ array_vec_len stack.old }
 {
-    if stack < 4 {
-        return SHORT;
-    }
-    stack / 4 * 2 + (stack % 2 + stack / 2 % 2) / 2
+    let value = stack.pop()?;
+    stack.push(!value);
+    Some(())
 }
 
-// OR of the last two values, in their place.
-fn or_two(stack: u64) -> u64
-    ensures { Does (on_two ◌||◌) stack result }
-{
-    if stack < 4 {
-        return SHORT;
-    }
-    stack / 4 * 2 + (stack % 2 + stack / 2 % 2 + 1) / 2
-}
-
-// NOT of the last value, in its place.
-fn not_one(stack: u64) -> u64
-    ensures { Does (on_one not) stack result }
-{
-    if stack < 2 {
-        return SHORT;
-    }
-    stack / 2 * 2 + (1 - stack % 2)
-}
-
-fn operate(stack: u64, code: u8) -> u64
-    ensures { Does (operator_of code) stack result }
+fn operate(stack: &mut Stack, code: u8) -> Option<()>
+    requires { array_vec_len stack.old ≤ 32 }
+    ensures value { Does (operator_of code) (stack_in stack.old) result (stack_in stack.new) }
+    ensures few { array_vec_len stack.new ≤ array_vec_len stack.old }
 {
     match code {
-        0 => and_two(stack),
-        1 => or_two(stack),
-        2 => not_one(stack),
-        _ => 0,
+        0 => on_two(stack, |first, second| first && second),
+        1 => on_two(stack, |first, second| first || second),
+        2 => on_one(stack),
+        _ => None,
     }
 }
 
-// One element.
-fn step(stack: u64, part: Part, conditions: &[bool]) -> u64
-    requires { stack < 4294967296 }
-    ensures { Does (put_element (condition_at conditions.now) part) stack result }
+/// One element. None: the list is malformed.
+fn step(stack: &mut Stack, part: Part, conditions: &[bool; 16]) -> Option<()>
+    requires { array_vec_len stack.old < 32 }
+    ensures value { Does (put_element (condition_at conditions.now) part) (stack_in stack.old) result (stack_in stack.new) }
+    ensures few { array_vec_len stack.new ≤ array_vec_len stack.old + 1 }
 {
     match part {
-        Part::Reference(row) => push(stack, condition(conditions, row)),
+        Part::Reference(row) => {
+            stack.push(condition(conditions, row));
+            Some(())
+        }
         Part::Operator(code) => operate(stack, code),
     }
 }
 
-// Of no elements.
-const EMPTY: Evaluation = Evaluation::False;
-
-// What is left at the end: one value, or the list is malformed.
-fn end_of(stack: u64) -> Evaluation
-    ensures { Ends stack result }
+/// What is left at the end: one value, or the list is malformed.
+fn end_of(stack: &Stack) -> Evaluation
+    ensures { result ≡ end_of (some (stack_in stack.now)) }
 {
-    match stack {
-        2 => Evaluation::False,
-        3 => Evaluation::True,
+    match stack.as_slice() {
+        [true] => Evaluation::True,
+        [false] => Evaluation::False,
         _ => Evaluation::Malformed,
     }
 }
 
-// How many elements there are: the count, but no more than there is room for.
-fn at_most_all(count: usize) -> usize
-    ensures { result ≡ at_most_all count }
+#[tactic(auto, using(crate::proofs::Walk::none_valued, crate::proofs::Walk::ran_begin, crate::proofs::Walk::ran_done))]
+/// The value of an expression under the sixteen conditions. An empty one is FALSE.
+pub fn value(expression: &Expression, conditions: &[bool; 16]) -> Evaluation
+    ensures { result ≡ value_of conditions.now (elements_in expression.now) }
 {
-    if count < Expression::ELEMENTS {
-        return count;
+    let elements = expression.as_slice();
+    if elements.is_empty() {
+        return Evaluation::False;
     }
-    Expression::ELEMENTS
-}
-
-// The value of the first `count` elements under the sixteen conditions.
-pub fn value(elements: [Element; 32], count: usize, conditions: [bool; 16]) -> Evaluation
-    ensures { result ≡ value_of conditions (take count elements) }
-{
-    if count == 0 {
-        return EMPTY;
+    let mut stack = Stack::new();
+    for element in elements {
+        if step(&mut stack, element.part, conditions).is_none() {
+            return Evaluation::Malformed;
+        }
     }
-    let all = at_most_all(count);
-    let mut stack: u64 = 1;
-    for i in 0..all {
-        let e = elements[i];
-        let part = e.part;
-        stack = step(stack, part, &conditions);
-    }
-    end_of(stack)
-}
-
-// The value of an expression under the sixteen conditions. Of an empty one nothing is copied.
-pub fn value_of(expression: Expression, conditions: [bool; 16]) -> Evaluation
-    ensures { result ≡ value_of conditions (elements_in expression) }
-{
-    if expression.count == 0 {
-        return EMPTY;
-    }
-    let elements = expression.elements;
-    value(elements, expression.count, conditions)
+    end_of(&stack)
 }

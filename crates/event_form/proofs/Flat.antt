@@ -11,7 +11,7 @@ use borrow.Author.Tests.{le-leb, leb-true, ltb-false, lt-ltb, le-ltb, eqb-true}
 use Rattle.base.proofs.Cases.{cond-true, cond-false, cond_either, and_left, and_right}
 use Rattle.drive.specs.Events.{Event, reading, elapse, reset, sensor_set, band_set, geometry, transfer}
 use Rattle.event_form.specs.Form.{fields_of, tokens_of}
-use Rattle.event_form.specs.Kinds.{kind_of}
+use Rattle.event_form.specs.Kinds.{event_by}
 use Rattle.event_form.specs.Parts.{Next, next, none, next_in, Flat, flat, no_flat, before, and_then, ended, events_in, events_of}
 use Rattle.event_form.specs.Flat.{FlatForm, all_fields, all_tokens}
 
@@ -27,7 +27,7 @@ without-bytes width e f t h = there width 0 (fields_of e ++ f) t (next e f t) h 
 
 -- one event: its flat form in front of anything is read as it, and what is left is the rest
 pub next-back : (e : Event) (f t : List ℕ) → next_in (fields_of e ++ f) (tokens_of e ++ t) ≡ next e f t
-unfolding next_in kind_of
+unfolding next_in event_by
 next-back (reading sensor value) f t = without-bytes 3 (reading sensor value) f t (omega arith)
 next-back (elapse n) f t = without-bytes 2 (elapse n) f t (omega arith)
 next-back (reset type) f t = without-bytes 2 (reset type) f t (omega arith)
@@ -81,7 +81,7 @@ kind-first kind n l h = ap {B = List ℕ} (λ r. kind ∷ r) (by_one n 0 l (omeg
 
 -- each kind by itself; from 8 on there is none
 split_by : (kind : ℕ) (l tokens : List ℕ) → Split (kind ∷ l) tokens (next_in (kind ∷ l) tokens)
-unfolding next_in kind_of
+unfolding next_in event_by
 split_by zero l tokens = tt
 split_by (suc zero) l tokens = if-there 3 0 (1 ∷ l) tokens _ (λ h g. (kind-first 1 2 l h, refl))
 split_by (suc (suc zero)) l tokens = if-there 2 0 (2 ∷ l) tokens _ (λ h g. (kind-first 2 1 l h, refl))

@@ -1,10 +1,9 @@
 -- How the events of a pair of slices are counted out (`FlatForm` in Flat.antt says which list they are), and the numbers of one event.
 use Rattle.std.specs.Prelude.{◌≡◌, ℕ, zero, suc, ◌-◌, cond, ◌&&◌, List, [], ◌∷◌, ◌++◌, eqb, leb, ltb, length, get_or, take, drop, replicate}
-use Rattle.drive.specs.declared.Kind.{Kind}
-use Rattle.drive.specs.Events.{Event, event_of}
+use Rattle.drive.specs.Events.{Event}
 use Rattle.event_form.specs.declared.EventNumbers.{EventNumbers}
 use Rattle.event_form.specs.Form.{fields_of}
-use Rattle.event_form.specs.Kinds.{kind_of}
+use Rattle.event_form.specs.Kinds.{event_by}
 
 -- the numbers of an event by its kind, which is one of them; 0 where there is no such kind
 abbrev pub width_of : ℕ → ℕ
@@ -25,7 +24,7 @@ next_in fields tokens =
     let width = width_of kind in
     let count = count_of fields in
     cond (leb 1 width && (leb width (length fields) && leb count (length tokens)))
-    (next (event_of (kind_of kind (drop 1 fields)) (take count tokens)) (drop width fields) (drop count tokens))
+    (next (event_by kind (drop 1 fields) (take count tokens)) (drop width fields) (drop count tokens))
     none
 
 -- the list of events that a pair of slices is, if any
@@ -53,8 +52,7 @@ events_in (suc k) fields tokens = cond (ltb 0 (length fields)) (and_then (next_i
 unfoldable pub events_of : List ℕ → List ℕ → Flat
 events_of fields tokens = events_in (length fields) fields tokens
 
--- what is told of the numbers of an event: so many from the start, and 0 after them, whatever the bytes of its expression
-pub record Numbers (kind : Kind) (count : ℕ) (r : EventNumbers) : Type 0 where
-  pub width : (tokens : List ℕ) → length tokens ≡ count → r.width ≡ length (fields_of (event_of kind tokens))
-  pub numbers : (tokens : List ℕ) → length tokens ≡ count
-      → r.numbers ≡ fields_of (event_of kind tokens) ++ replicate (10 - length (fields_of (event_of kind tokens))) 0
+-- what is told of the numbers of an event: so many from the start, and 0 after them
+pub record Numbers (e : Event) (r : EventNumbers) : Type 0 where
+  pub width : r.width ≡ length (fields_of e)
+  pub numbers : r.numbers ≡ fields_of e ++ replicate (10 - length (fields_of e)) 0

@@ -1,3 +1,3 @@
 pub mod Bounds
-pub mod Chains
+pub mod Part
 pub mod Progress

@@ -14,7 +14,7 @@ use Rattle.numbers.specs.Groups.{done, bad_script, Found, found, none, number_at
 use Rattle.sensor_set.specs.Columns.{sensor_masks}
 use Rattle.token_reader.specs.Read.{most_token_bytes}
 use Rattle.band_columns.specs.Sets.{band_masks}
-use Rattle.drive.specs.Events.{Event, reading, elapse, reset, geometry, transfer, shape_of, if_setting}
+use Rattle.drive.specs.Events.{Event, reading, elapse, reset, geometry, transfer}
 use Rattle.event_reader.specs.Fields.{
   Parsed,
   event,
@@ -48,9 +48,13 @@ use Rattle.event_reader.specs.Fields.{
   among,
   of_kind,
   event_at,
+  carried,
+  Reads,
 }
+use Rattle.std.specs.Prelude.{Some}
+use Rattle.drive.specs.declared.Event.{Event as LentEvent}
+use Rattle.event_reader.specs.Parts.{brief, brief_in}
 use Rattle.event_reader.proofs.Bounds.{NumberIn, number-at, number-here}
-use Rattle.event_reader.proofs.Chains.{three_at}
 
 -- ---- what was found ends between a place and the script's end
 
@@ -64,7 +68,7 @@ FiveIn s a (no_five answer) = Unit {0}
 
 -- the tokens of a band Set, and none of the other events
 abbrev pub tokens_of : Event → List ℕ
-tokens_of e = if_setting (shape_of e) (λ b c tokens. tokens) []
+tokens_of e = carried e
 
 abbrev EventIn : List ℕ → ℕ → Parsed → Type 0
 EventIn s a (event answer e start count n) = (a ≤ n) × (n ≤ length s) × (tokens_of e ≡ tokens_at s start count) × (length (tokens_at s start count) ≡ count)
@@ -145,6 +149,11 @@ from-elapse s at = on-first s at _ (λ v n h. last s n h (elapse v) refl)
 from-reset : (s : List ℕ) (at : ℕ) → EventIn s (at + 1) (reset_at s at)
 unfolding reset_at
 from-reset s at = on-first s at _ (λ v n h. last s n h (reset v) refl)
+
+-- three numbers, and what they and the place after them go on to
+abbrev three_at : List ℕ → ℕ → (ℕ → ℕ → ℕ → ℕ → Parsed) → Parsed
+three_at s at follow =
+    field (number_at s at) (λ a at. field (number_at s at) (λ b at. field (number_at s at) (λ c at. follow a b c at)))
 
 from-three : (s : List ℕ) (at : ℕ) (e : ℕ → ℕ → ℕ → Event) → ((a b c : ℕ) → tokens_of (e a b c) ≡ [])
     → EventIn s (at + 1) (three_at s at (λ a b c n. plain (e a b c) n))
@@ -234,3 +243,12 @@ event-tokens s at answer e start count n q = (subst (EventIn s (at + 2)) q (even
 pub event-count : (s : List ℕ) (at answer : ℕ) (e : Event) (start count n : ℕ) → event_at s at ≡ event answer e start count n
     → length (tokens_at s start count) ≡ count
 event-count s at answer e start count n q = (subst (EventIn s (at + 2)) q (event-from s at)).3
+
+-- ---- the whole, of an event and where the reader stands after it
+
+pub reads_some : (s : List ℕ) (at was n : ℕ) (ev : LentEvent) → brief_in (Some ev) n ≡ brief (event_at s at) → Reads s (event_at s at) was (Some ev) n
+reads_some s at was n ev h = go (event_at s at) refl h
+  where
+    go : (p : Parsed) → event_at s at ≡ p → brief_in (Some ev) n ≡ brief p → Reads s p was (Some ev) n
+    go (event answer e start count next) q h = (cc, cc, event-tokens s at answer e start count next q, cc)
+    go (broken answer) q h = let z : ◌≡◌ {A = ℕ} 0 1 = cc in absurd (omega (arith, z))

@@ -1,13 +1,12 @@
 -- Document 01, 'Script': the events and their fields, each read at its place.
-use Rattle.std.specs.Prelude.{ℕ, ◌+◌, ◌-◌, cond, List, [], ◌∷◌, eqb, leb, ltb, length, take, drop}
+use Rattle.std.specs.Prelude.{◌≡◌, ℕ, ◌+◌, ◌-◌, cond, List, [], ◌∷◌, eqb, leb, ltb, length, take, drop, Option, Some, None}
 use Rattle.base.specs.Columns.{named}
 use Rattle.numbers.specs.Groups.{done, bad_script, Found, found, none, onward, number_at}
 use Rattle.sensor_set.specs.Columns.{sensor_masks}
 use Rattle.token_reader.specs.Read.{most_token_bytes}
 use Rattle.band_columns.specs.Sets.{band_masks}
-use Rattle.drive.specs.Events.{Event, reading, elapse, reset, sensor_set, band_set, geometry, transfer, event_of}
-use Rattle.event_reader.specs.declared.EventRead.{EventRead}
-use Rattle.event_reader.specs.declared.EventRead.TheVariants as R
+use Rattle.drive.specs.declared.Event.{Event as LentEvent}
+use Rattle.drive.specs.Events.{Event, reading, elapse, reset, sensor_set, band_set, geometry, transfer, shape_of, if_setting, event_in}
 
 -- what reading an event at a place answers: done, with the event, where its expression's bytes start and how many they are, and the place
 -- after it; or bad script, whose place is the one "at which the first failing event starts"
@@ -163,7 +162,15 @@ of_kind n s at = among kinds n s at
 unfoldable pub event_at : List ℕ → ℕ → Parsed
 event_at s at = field (number_at s at) (λ kind at. of_kind kind s at)
 
--- the code's cases by the paper's numbers: the expression's bytes are those of the script
-abbrev pub parsed_in : List ℕ → EventRead → Parsed
-parsed_in s (R.Is kind start count next) = event 0 (event_of kind (tokens_at s start count)) start count next
-parsed_in s R.Bad = broken 10
+-- the bytes that an event carries: a band Set's expression
+abbrev pub carried : Event → List ℕ
+carried e = if_setting (shape_of e) (λ b c tokens. tokens) []
+
+-- What the code's reading hands back, from a place where the reader was, and where the reader is then: the event that stands there, whose
+-- bytes are a part of the script, and the reader after it; or none, with answer 10, and the reader as it was.
+abbrev pub Reads : List ℕ → Parsed → ℕ → Option LentEvent → ℕ → Type 0
+Reads s (event answer e start count next) was (Some ev) at =
+    (answer ≡ 0) × (event_in ev ≡ e) × (carried e ≡ tokens_at s start count) × (at ≡ next)
+Reads s (broken answer) was None at = (answer ≡ 10) × (at ≡ was)
+Reads s (event answer e start count next) was None at = ⊥
+Reads s (broken answer) was (Some ev) at = ⊥

@@ -1,286 +1,206 @@
-// One event of a script (document 01, 'Script'): its kind and its fields, read at their places.
+//! One event of a script: its kind and its fields, read one after the other.
 #![tactic(auto)]
 
-ghost use Rattle.std.specs.Prelude.{◌≡◌, cond, eqb};
-ghost use Rattle.numbers.specs.Groups.{found_in};
-ghost use Rattle.event_reader.specs.Fields.{column_at, first_columns_at, expression_at, parsed_in, reading_at, elapse_at, reset_at, sensor_set_at, band_set_at, geometry_at, transfer_at, event_at};
-ghost use Rattle.event_reader.specs.Parts.{first_columns_in, bytes_read_in};
+ghost use Rattle.std.specs.Prelude.{◌≡◌};
+ghost use Rattle.reader.specs.Places.{number_in};
+ghost use Rattle.event_reader.specs.Fields.{column_at, first_columns_at, expression_at, reading_at, elapse_at, reset_at, sensor_set_at, band_set_at, geometry_at, transfer_at, event_at, Reads};
+ghost use Rattle.event_reader.specs.Parts.{five_in, part_in, part_of, brief_in, brief};
 
 use band_columns::BandColumns;
-use drive::Kind;
-use numbers::Number;
+use drive::Event;
+use geometry::Span;
+use reader::Reader;
 use sensor_set::SensorColumns;
 
-// What reading at a place finds: an event, where its expression's bytes start and how many they are, and the place after it.
-#[derive(Clone, Copy)]
-pub enum EventRead {
-    Is {
-        kind: Kind,
-        start: usize,
-        count: usize,
-        next: usize,
-    },
-    Bad,
-}
-
-// An expression's bytes: where they start, how many they are, and the place after them.
-#[derive(Clone, Copy)]
-pub enum BytesRead {
-    Is(usize, usize, usize),
-    Bad,
-}
-
-// The columns of bits 1 to 16, by rising bit, and the place after them.
-#[derive(Clone, Copy)]
-pub enum FirstColumns {
-    Is(u64, u64, u64, u64, u64, usize),
-    Bad,
-}
-
-// The column of a bit, where the mask names it; else 0, which takes no bytes.
-fn column_at(script: &[u8], at: usize, mask: u64, bit: u64) -> Number
-    ensures { found_in result ≡ column_at script.now at mask bit }
+/// The column of a bit, where the mask names it; else 0, which takes no bytes.
+fn column(reader: &mut Reader<'_>, mask: u64, bit: u64) -> Option<u64>
+    ensures script { reader.new.script ≡ reader.old.script }
+    ensures column { number_in result reader.new.at ≡ column_at reader.old.script.now reader.old.at mask bit }
 {
     if base::names(mask, bit) {
-        return numbers::number_at(script, at);
+        return reader.number();
     }
-    Number::Is(0, at)
+    Some(0)
 }
 
-fn reading_at(script: &[u8], at: usize) -> EventRead
-    ensures { parsed_in script.now result ≡ reading_at script.now at }
+/// The columns of bits 1 to 16, by rising bit, with which the values of either Set begin.
+#[tactic(auto, unfolding(crate::specs::Fields::first_columns_at))]
+fn first_columns(reader: &mut Reader<'_>, mask: u64) -> Option<[u64; 5]>
+    ensures script { reader.new.script ≡ reader.old.script }
+    ensures columns { five_in result reader.new.at ≡ first_columns_at reader.old.script.now reader.old.at mask }
 {
-    let Number::Is(sensor, at1) = numbers::number_at(script, at) else {
-        return EventRead::Bad;
-    };
-    let Number::Is(value, at2) = numbers::number_at(script, at1) else {
-        return EventRead::Bad;
-    };
-    EventRead::Is {
-        kind: Kind::Reading { sensor, value },
-        start: 0,
-        count: 0,
-        next: at2,
-    }
+    let first = column(reader, mask, 1)?;
+    let second = column(reader, mask, 2)?;
+    let third = column(reader, mask, 4)?;
+    let fourth = column(reader, mask, 8)?;
+    let fifth = column(reader, mask, 16)?;
+    Some([first, second, third, fourth, fifth])
 }
 
-fn elapse_at(script: &[u8], at: usize) -> EventRead
-    ensures { parsed_in script.now result ≡ elapse_at script.now at }
+#[tactic(auto, unfolding(crate::specs::Fields::reading_at))]
+fn reading<'a>(reader: &mut Reader<'a>) -> Option<Event<'a>>
+    ensures script { reader.new.script ≡ reader.old.script }
+    ensures event { brief_in result reader.new.at ≡ brief (reading_at reader.old.script.now reader.old.at) }
 {
-    let Number::Is(ticks, at1) = numbers::number_at(script, at) else {
-        return EventRead::Bad;
-    };
-    EventRead::Is {
-        kind: Kind::Elapse { ticks },
-        start: 0,
-        count: 0,
-        next: at1,
-    }
+    let sensor = reader.number()?;
+    let value = reader.number()?;
+    Some(Event::Reading { sensor, value })
 }
 
-fn reset_at(script: &[u8], at: usize) -> EventRead
-    ensures { parsed_in script.now result ≡ reset_at script.now at }
+#[tactic(auto, unfolding(crate::specs::Fields::elapse_at))]
+fn elapse<'a>(reader: &mut Reader<'a>) -> Option<Event<'a>>
+    ensures script { reader.new.script ≡ reader.old.script }
+    ensures event { brief_in result reader.new.at ≡ brief (elapse_at reader.old.script.now reader.old.at) }
 {
-    let Number::Is(reset_type, at1) = numbers::number_at(script, at) else {
-        return EventRead::Bad;
-    };
-    EventRead::Is {
-        kind: Kind::Reset { reset_type },
-        start: 0,
-        count: 0,
-        next: at1,
-    }
+    let ticks = reader.number()?;
+    Some(Event::Elapse { ticks })
 }
 
-// The columns of bits 1 to 16, with which the values of either Set begin.
-fn first_columns_at(script: &[u8], at: usize, mask: u64) -> FirstColumns
-    ensures { first_columns_in result ≡ first_columns_at script.now at mask }
+#[tactic(auto, unfolding(crate::specs::Fields::reset_at))]
+fn reset<'a>(reader: &mut Reader<'a>) -> Option<Event<'a>>
+    ensures script { reader.new.script ≡ reader.old.script }
+    ensures event { brief_in result reader.new.at ≡ brief (reset_at reader.old.script.now reader.old.at) }
 {
-    let Number::Is(first, at1) = column_at(script, at, mask, 1) else {
-        return FirstColumns::Bad;
-    };
-    let Number::Is(second, at2) = column_at(script, at1, mask, 2) else {
-        return FirstColumns::Bad;
-    };
-    let Number::Is(third, at3) = column_at(script, at2, mask, 4) else {
-        return FirstColumns::Bad;
-    };
-    let Number::Is(fourth, at4) = column_at(script, at3, mask, 8) else {
-        return FirstColumns::Bad;
-    };
-    let Number::Is(fifth, at5) = column_at(script, at4, mask, 16) else {
-        return FirstColumns::Bad;
-    };
-    FirstColumns::Is(first, second, third, fourth, fifth, at5)
+    let reset_type = reader.number()?;
+    Some(Event::Reset { reset_type })
 }
 
-fn sensor_set_at(script: &[u8], at: usize) -> EventRead
-    ensures { parsed_in script.now result ≡ sensor_set_at script.now at }
+#[tactic(auto, unfolding(crate::specs::Fields::sensor_set_at))]
+fn sensor_set<'a>(reader: &mut Reader<'a>) -> Option<Event<'a>>
+    ensures script { reader.new.script ≡ reader.old.script }
+    ensures event { brief_in result reader.new.at ≡ brief (sensor_set_at reader.old.script.now reader.old.at) }
 {
-    let Number::Is(sensor, at1) = numbers::number_at(script, at) else {
-        return EventRead::Bad;
-    };
-    let Number::Is(mask, at2) = numbers::number_at(script, at1) else {
-        return EventRead::Bad;
-    };
+    let sensor = reader.number()?;
+    let mask = reader.number()?;
     if SensorColumns::MASKS <= mask {
-        return EventRead::Bad;
+        return None;
     }
-    let FirstColumns::Is(first, second, third, fourth, fifth, at3) = first_columns_at(
-        script, at2, mask,
-    ) else {
-        return EventRead::Bad;
-    };
-    let Number::Is(off_fraction, at4) = column_at(script, at3, mask, 32) else {
-        return EventRead::Bad;
-    };
-    let Number::Is(off_timeout, at5) = column_at(script, at4, mask, 64) else {
-        return EventRead::Bad;
-    };
+    let [
+        enabled,
+        on_threshold,
+        on_fraction,
+        on_timeout,
+        off_threshold,
+    ] = first_columns(reader, mask)?;
+    let off_fraction = column(reader, mask, 32)?;
+    let off_timeout = column(reader, mask, 64)?;
     let columns = SensorColumns {
         mask,
-        enabled: first,
-        on_threshold: second,
-        on_fraction: third,
-        on_timeout: fourth,
-        off_threshold: fifth,
+        enabled,
+        on_threshold,
+        on_fraction,
+        on_timeout,
+        off_threshold,
         off_fraction,
         off_timeout,
     };
-    EventRead::Is {
-        kind: Kind::SensorSet { sensor, columns },
-        start: 0,
-        count: 0,
-        next: at5,
-    }
+    Some(Event::SensorSet { sensor, columns })
 }
 
-// Where an expression's bytes stand, where the mask names it; else no bytes.
-fn expression_at(script: &[u8], at: usize, mask: u64) -> BytesRead
-    ensures { bytes_read_in result ≡ expression_at script.now at mask }
+/// An expression's bytes, at most 1,024, where the mask names it; else no bytes.
+fn expression<'a>(reader: &mut Reader<'a>, mask: u64) -> Option<&'a [u8]>
+    ensures script { reader.new.script ≡ reader.old.script }
+    ensures bytes { part_in result reader.new.at ≡ part_of reader.old.script.now (expression_at reader.old.script.now reader.old.at mask) }
 {
     if base::names(mask, 32) {
-        let Number::Is(size, at1) = numbers::number_at(script, at) else {
-            return BytesRead::Bad;
-        };
+        let size = reader.number()?;
         let most = token_reader::MOST_BYTES as u64;
         if most < size {
-            return BytesRead::Bad;
+            return None;
         }
-        if script.len() < at1 {
-            return BytesRead::Bad;
-        }
-        let count = size as usize;
-        if script.len() - at1 < count {
-            return BytesRead::Bad;
-        }
-        return BytesRead::Is(at1, count, at1 + count);
+        return reader.part(size as usize);
     }
-    BytesRead::Is(0, 0, at)
+    Some(&[])
 }
 
-fn band_set_at(script: &[u8], at: usize) -> EventRead
-    ensures { parsed_in script.now result ≡ band_set_at script.now at }
+#[tactic(auto, unfolding(crate::specs::Fields::band_set_at))]
+fn band_set<'a>(reader: &mut Reader<'a>) -> Option<Event<'a>>
+    ensures script { reader.new.script ≡ reader.old.script }
+    ensures event { brief_in result reader.new.at ≡ brief (band_set_at reader.old.script.now reader.old.at) }
 {
-    let Number::Is(band, at1) = numbers::number_at(script, at) else {
-        return EventRead::Bad;
-    };
-    let Number::Is(mask, at2) = numbers::number_at(script, at1) else {
-        return EventRead::Bad;
-    };
+    let band = reader.number()?;
+    let mask = reader.number()?;
     if BandColumns::MASKS <= mask {
-        return EventRead::Bad;
+        return None;
     }
-    let FirstColumns::Is(first, second, third, fourth, fifth, at3) = first_columns_at(
-        script, at2, mask,
-    ) else {
-        return EventRead::Bad;
-    };
-    let BytesRead::Is(start, count, at4) = expression_at(script, at3, mask) else {
-        return EventRead::Bad;
-    };
+    let [
+        read_lock_enabled,
+        write_lock_enabled,
+        read_locked,
+        write_locked,
+        lock_on_reset,
+    ] = first_columns(reader, mask)?;
+    let tokens = expression(reader, mask)?;
     let columns = BandColumns {
         mask,
-        read_lock_enabled: first,
-        write_lock_enabled: second,
-        read_locked: third,
-        write_locked: fourth,
-        lock_on_reset: fifth,
+        read_lock_enabled,
+        write_lock_enabled,
+        read_locked,
+        write_locked,
+        lock_on_reset,
     };
-    EventRead::Is {
-        kind: Kind::BandSet { band, columns },
-        start,
-        count,
-        next: at4,
+    Some(Event::BandSet {
+        band,
+        columns,
+        tokens,
+    })
+}
+
+#[tactic(auto, unfolding(crate::specs::Fields::geometry_at))]
+fn geometry<'a>(reader: &mut Reader<'a>) -> Option<Event<'a>>
+    ensures script { reader.new.script ≡ reader.old.script }
+    ensures event { brief_in result reader.new.at ≡ brief (geometry_at reader.old.script.now reader.old.at) }
+{
+    let band = reader.number()?;
+    let start = reader.number()?;
+    let length = reader.number()?;
+    Some(Event::Geometry {
+        band,
+        span: Span { start, length },
+    })
+}
+
+#[tactic(auto, unfolding(crate::specs::Fields::transfer_at))]
+fn transfer<'a>(reader: &mut Reader<'a>) -> Option<Event<'a>>
+    ensures script { reader.new.script ≡ reader.old.script }
+    ensures event { brief_in result reader.new.at ≡ brief (transfer_at reader.old.script.now reader.old.at) }
+{
+    let direction = reader.number()?;
+    let start = reader.number()?;
+    let length = reader.number()?;
+    Some(Event::Transfer {
+        direction,
+        range: Span { start, length },
+    })
+}
+
+/// The fields of an event, by its kind.
+#[tactic(auto, unfolding(crate::specs::Fields::event_at))]
+fn fields<'a>(reader: &mut Reader<'a>) -> Option<Event<'a>>
+    ensures script { reader.new.script ≡ reader.old.script }
+    ensures event { brief_in result reader.new.at ≡ brief (event_at reader.old.script.now reader.old.at) }
+{
+    // stays: (4) a script's kinds are these numbers, and each stands once, beside what reads it
+    match reader.number()? {
+        1 => reading(reader),
+        2 => elapse(reader),
+        3 => reset(reader),
+        4 => sensor_set(reader),
+        5 => band_set(reader),
+        6 => geometry(reader),
+        7 => transfer(reader),
+        _ => None,
     }
 }
 
-// A geometry where the kind is 6, else a transfer: three numbers either way.
-fn three_at(script: &[u8], at: usize, kind: u64) -> EventRead
-    ensures { parsed_in script.now result ≡ cond (eqb kind 6) (geometry_at script.now at) (transfer_at script.now at) }
+/// The event at the reader's place, an expression's bytes as a part of the script itself; the reader moves on to the end of it. `None`
+/// where none reads there, and the reader stays as it was.
+pub fn event<'a>(reader: &mut Reader<'a>) -> Option<Event<'a>>
+    ensures script { reader.new.script ≡ reader.old.script }
+    ensures event { Reads reader.old.script.now (event_at reader.old.script.now reader.old.at) reader.old.at result reader.new.at }
 {
-    let Number::Is(first, at1) = numbers::number_at(script, at) else {
-        return EventRead::Bad;
-    };
-    let Number::Is(second, at2) = numbers::number_at(script, at1) else {
-        return EventRead::Bad;
-    };
-    let Number::Is(third, at3) = numbers::number_at(script, at2) else {
-        return EventRead::Bad;
-    };
-    if kind == 6 {
-        return EventRead::Is {
-            kind: Kind::Geometry {
-                band: first,
-                start: second,
-                length: third,
-            },
-            start: 0,
-            count: 0,
-            next: at3,
-        };
-    }
-    EventRead::Is {
-        kind: Kind::Transfer {
-            direction: first,
-            start: second,
-            count: third,
-        },
-        start: 0,
-        count: 0,
-        next: at3,
-    }
-}
-
-// The event at a place: its kind, and then its fields.
-pub fn event_at(script: &[u8], at: usize) -> EventRead
-    ensures { parsed_in script.now result ≡ event_at script.now at }
-{
-    let Number::Is(kind, at1) = numbers::number_at(script, at) else {
-        return EventRead::Bad;
-    };
-    match kind {
-        1 => reading_at(script, at1),
-        2 => elapse_at(script, at1),
-        3 => reset_at(script, at1),
-        4 => sensor_set_at(script, at1),
-        5 => band_set_at(script, at1),
-        6 | 7 => three_at(script, at1, kind),
-        _ => EventRead::Bad,
-    }
-}
-
-// The bytes of an expression, as a part of the script itself; no bytes where they would not lie in it.
-pub fn tokens_at(script: &[u8], start: usize, count: usize) -> &[u8]
-    ensures { result.now ≡ Rattle.event_reader.specs.Fields.tokens_at script.now start count }
-{
-    if start <= script.len() {
-        if count <= script.len() - start {
-            &script[start..start + count]
-        } else {
-            &script[0..0]
-        }
-    } else {
-        &script[0..0]
-    }
+    let mut ahead = *reader;
+    let event = fields(&mut ahead)?;
+    *reader = ahead;
+    Some(event)
 }

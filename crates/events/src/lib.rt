@@ -1,229 +1,137 @@
-// The seven events of a drive (document 01): each takes any numbers and any drive, and hands back the answer, the stops and the drive.
+//! The seven events of a drive: each takes any numbers and any drive, changes the drive in place, and hands back the stops, or the refusal and
+//! the drive as it was.
 #![tactic(auto)]
 
-ghost use Rattle.std.specs.Prelude.{◌≡◌, cond, map, ◌<◌, ◌≤◌, eqb, set};
-ghost use Rattle.answer.specs.Numbers.{number_of};
+ghost use Rattle.std.specs.Prelude.{◌≡◌, cond, map, ◌<◌, ◌≤◌, eqb, IfOk};
 ghost use Rattle.sensor.specs.Single.{power_cycle_of};
-ghost use Rattle.drive.specs.State.{with_rows, with_sensors};
-ghost use Rattle.drive.specs.Events.{sensing, Replies, event_of};
+ghost use Rattle.drive.specs.Events.{sensing, Replies, event_in};
 ghost use Rattle.drive.specs.Events.{Event as E};
 ghost use Rattle.elapse.specs.Jumps.{running};
-ghost use Rattle.events.specs.Parts.{refused, granting, Stores, RepliesBy};
+ghost use Rattle.events.specs.Parts.{RepliesBy};
 
-use answer::Answer;
-use band::Row;
+use answer::Refusal;
+use band::{Row, Side};
 use band_columns::BandColumns;
-use drive::{Drive, Kind, Reply};
-use row_set::RowAnswer;
-use sensor::{Sensor, SensorAnswer};
+use drive::{Drive, Event};
+use geometry::Span;
 use sensor_set::{SensorColumns, SensorEvent};
 
-// Granted, document 01's word: the answer is done.
-fn granted(answer: Answer) -> bool
-    ensures { result ≡ eqb (number_of answer) 0 }
+/// An event on one sensor.
+fn on_sensor(drive: &mut Drive, sensor: u64, event: SensorEvent) -> Result<u64, Refusal>
+    ensures { RepliesBy drive.old (sensing sensor event) result drive.new }
 {
-    answer.number() == 0
+    let at = drive::place_of(drive.sensor_count, sensor)?;
+    drive.sensors[at] = event.apply(drive.sensors[at])?;
+    drive.settle();
+    Ok(0)
 }
 
-// A refusal: the drive as it was.
-fn refuse(drive: Drive, answer: Answer) -> Reply
-    ensures { result ≡ refused answer drive }
-{
-    Reply {
-        answer,
-        stops: 0,
-        drive,
-    }
-}
-
-// An event that is done, from what it did: the bands settle.
-fn grant(drive: Drive) -> Reply
-    ensures { result ≡ granting drive }
-{
-    let settled = drive.settle();
-    Reply {
-        answer: Answer::Done,
-        stops: 0,
-        drive: settled,
-    }
-}
-
-// What a sensor's answer makes of the drive.
-fn store_sensor(drive: Drive, at: usize, r: SensorAnswer) -> Reply
-    requires { at < 16 }
-    ensures { Stores r.answer (with_sensors (set drive.sensors at r.sensor) drive) drive result }
-{
-    let answer = r.answer;
-    if granted(answer) {
-        let sensor = r.sensor;
-        let mut next = drive;
-        next.sensors[at] = sensor;
-        return grant(next);
-    }
-    refuse(drive, answer)
-}
-
-// An event on one sensor.
-fn on_sensor(drive: Drive, sensor: u64, event: SensorEvent) -> Reply
-    ensures { RepliesBy drive (sensing sensor event) result }
-{
-    if drive::no_row(drive.sensor_count, sensor) {
-        return refuse(drive, Answer::NoRow);
-    }
-    let at = sensor as usize;
-    let all = drive.sensors;
-    let one = sensors::sensor_at(all, at);
-    let r = match event {
-        SensorEvent::Reading { value } => one.reading(value),
-        SensorEvent::Set { columns } => sensor_set::set(one, columns),
-    };
-    store_sensor(drive, at, r)
-}
-
-// 1 reading
-pub fn reading(drive: Drive, sensor: u64, value: u64) -> Reply
-    ensures { Replies drive (E.reading sensor value) result }
+/// Event 1, a sensor's reading. Errors: `NoRow`, `OutOfRange`.
+pub fn reading(drive: &mut Drive, sensor: u64, value: u64) -> Result<u64, Refusal>
+    ensures { Replies drive.old (E.reading sensor value) result drive.new }
 {
     on_sensor(drive, sensor, SensorEvent::Reading { value })
 }
 
-// 2 elapse
-pub fn elapse(drive: Drive, ticks: u64) -> Reply
-    ensures replies { Replies drive (E.elapse ticks) result }
-    ensures few { result.stops ≤ running drive }
+/// Event 2, time that passes: hands back the stops, at most as many as timers ran. Errors: `OutOfRange`.
+pub fn elapse(drive: &mut Drive, ticks: u64) -> Result<u64, Refusal>
+    ensures replies { Replies drive.old (E.elapse ticks) result drive.new }
+    ensures few { IfOk result (λ stops. stops ≤ running drive.old) }
 {
     if elapse::MOST_TICKS < ticks {
-        return refuse(drive, Answer::OutOfRange);
+        return Err(Refusal::OutOfRange);
     }
-    let elapsed = elapse::elapse(drive, ticks as u32);
-    let after = elapsed.drive;
-    let rested = after.settle();
-    Reply {
-        answer: Answer::Done,
-        stops: elapsed.stops,
-        drive: rested,
-    }
+    let stops = elapse::elapse(drive, ticks as u32);
+    drive.settle();
+    Ok(stops)
 }
 
-// The sensors after a reset: a power cycle touches them, the other types do not.
-fn cycled(sensors: [Sensor; 16], reset_type: u64) -> [Sensor; 16]
-    ensures { result ≡ cond (eqb reset_type 0) (map power_cycle_of sensors) sensors }
-{
-    if reset_type == 0 {
-        return sensors::power_cycle_all(sensors);
-    }
-    sensors
-}
-
-// 3 reset
-pub fn reset(drive: Drive, reset_type: u64) -> Reply
-    ensures { Replies drive (E.reset reset_type) result }
+/// Event 3, a reset. Errors: `OutOfRange` of a type that there is not.
+pub fn reset(drive: &mut Drive, reset_type: u64) -> Result<u64, Refusal>
+    ensures { Replies drive.old (E.reset reset_type) result drive.new }
 {
     if Row::LAST_RESET < reset_type {
-        return refuse(drive, Answer::OutOfRange);
+        return Err(Refusal::OutOfRange);
     }
-    let rows = drive.rows;
-    let locked = bands::reset_all(rows, reset_type);
-    let all = drive.sensors;
-    let after = cycled(all, reset_type);
-    let next = drive.with_rows(locked);
-    grant(next.with_sensors(after))
+    bands::reset_all(&mut drive.rows, reset_type);
+    if reset_type == 0 {
+        sensors::power_cycle_all(&mut drive.sensors);
+    }
+    drive.settle();
+    Ok(0)
 }
 
-// 4 sensor Set
-pub fn set_sensor(drive: Drive, sensor: u64, columns: SensorColumns) -> Reply
-    ensures { Replies drive (E.sensor_set sensor columns) result }
+/// Event 4, a Set of a sensor's columns. Errors: `NoRow`, `OutOfRange`.
+pub fn set_sensor(drive: &mut Drive, sensor: u64, columns: SensorColumns) -> Result<u64, Refusal>
+    ensures { Replies drive.old (E.sensor_set sensor columns) result drive.new }
 {
     on_sensor(drive, sensor, SensorEvent::Set { columns })
 }
 
-// What a row's answer makes of the drive.
-fn store_row(drive: Drive, at: usize, r: RowAnswer) -> Reply
-    requires { at < 16 }
-    ensures { Stores r.answer (with_rows (set drive.rows at r.row) drive) drive result }
+/// Event 5, a Set of a band's columns. Errors: `NoRow`, `OutOfRange`, `NotTokens`, `TooLong`, `Malformed`, `Held`.
+pub fn set_band(
+    drive: &mut Drive,
+    band: u64,
+    columns: BandColumns,
+    tokens: &[u8],
+) -> Result<u64, Refusal>
+    ensures { Replies drive.old (E.band_set band columns tokens.now) result drive.new }
 {
-    let answer = r.answer;
-    if granted(answer) {
-        let row = r.row;
-        let mut next = drive;
-        next.rows[at] = row;
-        return grant(next);
-    }
-    refuse(drive, answer)
-}
-
-// 5 band Set
-pub fn set_band(drive: Drive, band: u64, columns: BandColumns, tokens: &[u8]) -> Reply
-    ensures { Replies drive (E.band_set band columns tokens.now) result }
-{
-    if drive::no_row(drive.band_count, band) {
-        return refuse(drive, Answer::NoRow);
-    }
-    let at = band as usize;
+    let at = drive::place_of(drive.band_count, band)?;
     let conditions = drive.conditions();
-    let all = drive.rows;
-    let one = bands::row_at(all, at);
-    let r = row_set::set(one, conditions, columns, tokens);
-    store_row(drive, at, r)
+    drive.rows[at] = row_set::set(&drive.rows[at], &conditions, columns, tokens)?;
+    drive.settle();
+    Ok(0)
 }
 
-// 6 geometry
-pub fn set_geometry(drive: Drive, band: u64, start: u64, length: u64) -> Reply
-    ensures { Replies drive (E.geometry band start length) result }
+/// Event 6, a band's new place. Errors: `NoRow`, `Global`, `PastEnd`, `Overlap`.
+pub fn set_geometry(drive: &mut Drive, band: u64, span: Span) -> Result<u64, Refusal>
+    ensures { Replies drive.old (E.geometry band span.start span.length) result drive.new }
 {
-    let spans = drive.spans;
-    let placed = geometry::place(drive.capacity, drive.band_count, spans, band, start, length);
-    let answer = placed.answer;
-    if granted(answer) {
-        let after = placed.spans;
-        return grant(drive.with_spans(after));
-    }
-    refuse(drive, answer)
-}
-
-// 7 transfer
-pub fn transfer(drive: Drive, direction: u64, start: u64, count: u64) -> Reply
-    ensures { Replies drive (E.transfer direction start count) result }
-{
-    if 1 < direction {
-        return refuse(drive, Answer::OutOfRange);
-    }
-    let rows = drive.rows;
-    let closed = bands::closed_sides(rows, drive::side(direction));
-    let spans = drive.spans;
-    let answer = geometry::transfer(
+    geometry::place(
         drive.capacity,
         drive.band_count,
-        spans,
-        closed,
-        start,
-        count,
-    );
-    if granted(answer) {
-        return grant(drive);
-    }
-    refuse(drive, answer)
+        &mut drive.spans,
+        band,
+        span,
+    )?;
+    drive.settle();
+    Ok(0)
 }
 
-// Any of the seven. Only a band Set looks at the bytes.
-pub fn apply(drive: Drive, kind: Kind, tokens: &[u8]) -> Reply
-    ensures { Replies drive (event_of kind tokens.now) result }
+/// Event 7, a read or write of a range of blocks. Errors: `OutOfRange` of the direction, `PastEnd`, `Locked`.
+pub fn transfer(drive: &mut Drive, direction: u64, range: Span) -> Result<u64, Refusal>
+    ensures { Replies drive.old (E.transfer direction range.start range.length) result drive.new }
 {
-    match kind {
-        Kind::Reading { sensor, value } => reading(drive, sensor, value),
-        Kind::Elapse { ticks } => elapse(drive, ticks),
-        Kind::Reset { reset_type } => reset(drive, reset_type),
-        Kind::SensorSet { sensor, columns } => set_sensor(drive, sensor, columns),
-        Kind::BandSet { band, columns } => set_band(drive, band, columns, tokens),
-        Kind::Geometry {
+    let side = Side::try_from(direction)?;
+    let closed = bands::closed_sides(&drive.rows, side);
+    geometry::transfer(
+        drive.capacity,
+        drive.band_count,
+        &drive.spans,
+        &closed,
+        range,
+    )?;
+    drive.settle();
+    Ok(0)
+}
+
+/// Any of the seven. Errors: those of the event.
+// stays: (1) the seven above are public, each with its own equation; this is the match over them
+pub fn apply(drive: &mut Drive, event: Event<'_>) -> Result<u64, Refusal>
+    ensures { Replies drive.old (event_in event.entry) result drive.new }
+{
+    match event {
+        Event::Reading { sensor, value } => reading(drive, sensor, value),
+        Event::Elapse { ticks } => elapse(drive, ticks),
+        Event::Reset { reset_type } => reset(drive, reset_type),
+        Event::SensorSet { sensor, columns } => set_sensor(drive, sensor, columns),
+        Event::BandSet {
             band,
-            start,
-            length,
-        } => set_geometry(drive, band, start, length),
-        Kind::Transfer {
-            direction,
-            start,
-            count,
-        } => transfer(drive, direction, start, count),
+            columns,
+            tokens,
+        } => set_band(drive, band, columns, tokens),
+        Event::Geometry { band, span } => set_geometry(drive, band, span),
+        Event::Transfer { direction, range } => transfer(drive, direction, range),
     }
 }

@@ -7,20 +7,15 @@
 // bytes written, whether the rest was kept, and those bytes.
 #![tactic(auto)]
 
-ghost use Rattle.std.specs.Prelude.{◌≡◌, ◌<◌, ◌≤◌, length};
+ghost use Rattle.std.specs.Prelude.{◌<◌, ◌≤◌};
 
-use answer::Answer;
+use cases::{BLANK, Cases};
 use evaluator::Evaluation;
 use expression::{Expression, Part};
-use output::Written;
 use sensor::Sensor;
 
-// What an output holds before the writer is called, and how much of it there is.
-const BLANK: u8 = 0xEE;
-
+// How much of an output there is.
 const ROOM: usize = 400;
-
-const MOST: usize = 18_446_744_073_709_551_615;
 
 const AND: u64 = token_writer::OPERATORS;
 
@@ -31,103 +26,50 @@ const NOT: u64 = token_writer::OPERATORS + 2;
 // One above the last operator.
 const NONE: u64 = token_writer::OPERATORS + 3;
 
-// What is printed is held to the file stdout, which also shows a write that failed.
-fn print(rt: &impl Print, text: &[u8]) {
-    let _ = rt.write_all(text);
-}
-
-fn print_number(rt: &impl Print, n: u64) {
-    let _ = rt.print(n);
-}
-
-fn print_next(rt: &impl Print, n: u64) {
-    print(rt, b" ");
-    print_number(rt, n);
-}
-
-fn print_answer(rt: &impl Print, answer: Answer) {
-    print_next(rt, answer.number() as u64);
-}
-
 // TRUE, FALSE or malformed.
-fn print_value(rt: &impl Print, value: Evaluation) {
+fn word(value: Evaluation) -> &'static str {
     match value {
-        Evaluation::True => {
-            print(rt, b"1");
-        }
-        Evaluation::False => {
-            print(rt, b"0");
-        }
-        Evaluation::Malformed => {
-            print(rt, b"-");
-        }
+        Evaluation::True => "1",
+        Evaluation::False => "0",
+        Evaluation::Malformed => "-",
     }
 }
 
-fn print_next_value(rt: &impl Print, value: Evaluation) {
-    print(rt, b" ");
-    print_value(rt, value);
-}
-
-fn print_operator(rt: &impl Print, code: u8) {
-    match code {
-        0 => {
-            print(rt, b" AND");
-        }
-        1 => {
-            print(rt, b" OR");
-        }
-        2 => {
-            print(rt, b" NOT");
-        }
-        _ => {
-            print(rt, b" op");
-            print_next(rt, code as u64);
-        }
-    }
-}
-
+// What is printed is held to the file stdout, which also shows a write that failed.
 fn print_part(rt: &impl Print, part: Part) {
-    match part {
-        Part::Reference(row) => {
-            print_next(rt, row as u64);
-        }
-        Part::Operator(code) => {
-            print_operator(rt, code);
-        }
-    }
+    let _ = match part {
+        Part::Reference(row) => print!(rt; " {row}"),
+        Part::Operator(0) => print!(rt; " AND"),
+        Part::Operator(1) => print!(rt; " OR"),
+        Part::Operator(2) => print!(rt; " NOT"),
+        Part::Operator(code) => print!(rt; " op {code}"),
+    };
 }
 
-fn print_elements(rt: &impl Print, expression: Expression) {
-    print_next(rt, expression.count as u64);
-    print(rt, b":");
-    let elements = expression.elements;
-    for i in 0..32 {
-        if expression.count <= i {
-            return;
-        }
-        let e = elements[i];
-        let part = e.part;
-        print_part(rt, part);
+fn print_elements(rt: &impl Print, expression: &Expression) {
+    let _ = print!(rt; " {}:", expression.count);
+    for element in expression.as_slice() {
+        print_part(rt, element.part);
     }
 }
 
 // The values where all conditions are FALSE, all TRUE, and those of the even rows TRUE.
-fn print_values(rt: &impl Print, expression: Expression) {
+fn print_values(rt: &impl Print, expression: &Expression) {
     let even = [
         true, false, true, false, true, false, true, false, true, false, true, false, true, false,
         true, false,
     ];
-    print(rt, b";");
-    print_next_value(rt, evaluator::value_of(expression, [false; 16]));
-    print_next_value(rt, evaluator::value_of(expression, [true; 16]));
-    print_next_value(rt, evaluator::value_of(expression, even));
+    let _ = print!(rt; ";");
+    for conditions in [[false; 16], [true; 16], even] {
+        let _ = print!(rt; " {}", word(evaluator::value(expression, &conditions)));
+    }
 }
 
 fn sensor(condition: bool) -> Sensor {
-    let mut s = Sensor::fresh();
-    s.condition = condition;
-    s
+    Sensor {
+        condition,
+        ..Sensor::fresh()
+    }
 }
 
 // Sixteen sensors, those of the odd rows TRUE and the others as said.
@@ -138,221 +80,133 @@ fn odd_and(even: bool) -> [Sensor; 16] {
 }
 
 // The values on sixteen sensors, by how many of them are there.
-fn print_by_count(rt: &impl Print, expression: Expression, all: [Sensor; 16]) {
-    let elements = expression.elements;
-    print(rt, b" ");
+fn print_by_count(rt: &impl Print, expression: &Expression, all: &[Sensor; 16]) {
+    let _ = print!(rt; " ");
     for present in 0..18 {
-        print_value(rt, limit::value(elements, expression.count, all, present));
+        let _ = print!(rt; "{}", word(limit::value(expression, all, present)));
     }
-    print_value(rt, limit::value(elements, expression.count, all, MOST));
+    let _ = print!(rt; "{}", word(limit::value(expression, all, usize::MAX)));
 }
 
-fn print_counted(rt: &impl Print, expression: Expression) {
-    print(rt, b";");
-    print_by_count(rt, expression, odd_and(true));
-    print_by_count(rt, expression, odd_and(false));
+fn print_counted(rt: &impl Print, expression: &Expression) {
+    let _ = print!(rt; ";");
+    print_by_count(rt, expression, &odd_and(true));
+    print_by_count(rt, expression, &odd_and(false));
 }
 
-// Whether the output's first `count` bytes are these bytes.
-fn begins(out: &[u8], count: usize, bytes: &[u8]) -> bool {
-    if count != bytes.len() {
-        return false;
-    }
-    if out.len() < count {
-        return false;
-    }
-    &out[..count] == bytes
-}
-
-fn blanks() -> [u8; ROOM]
-    ensures { 400 ≡ length result }
-{
-    [BLANK; ROOM]
-}
-
-// Whether the output is blank from place `from` on.
-fn blank(out: &[u8], from: usize) -> bool {
-    let mut i = from;
-    while i < out.len() {
-        if out[i] != BLANK {
-            return false;
-        }
-        i += 1;
-    }
-    true
-}
-
-fn print_blank(rt: &impl Print, out: &[u8], from: usize) {
-    if blank(out, from) {
-        print(rt, b" kept");
+// Whether an output is blank from a place on.
+fn kept(out: &[u8], from: usize) -> &'static str {
+    if cases::is_blank(out, from) {
+        "kept"
     } else {
-        print(rt, b" changed");
+        "changed"
     }
 }
 
 // Writes the expression into an output with room, and prints the bytes needed and whether they are those that were read.
-fn print_written(rt: &impl Print, expression: Expression, bytes: &[u8]) -> usize {
-    let mut out = blanks();
+fn print_written(rt: &impl Print, expression: &Expression, bytes: &[u8]) -> usize {
+    let mut out = [BLANK; ROOM];
     let written = token_writer::write_expression(expression, &mut out);
-    let answer = written.answer;
-    print(rt, b";");
-    print_answer(rt, answer);
-    print_next(rt, written.count as u64);
-    if begins(&out, written.count, bytes) {
-        print(rt, b" same");
-    } else {
-        print(rt, b" differ");
-    }
-    print_blank(rt, &out, written.count);
-    written.count
-}
-
-// Writes the expression into the first bytes of an output.
-fn write_short(expression: Expression, out: &mut [u8], room: usize) -> Written
-    requires { room ≤ length out.old }
-{
-    token_writer::write_expression(expression, &mut out[..room])
+    let count = written.unwrap_or(0);
+    let same = out.get(..count) == Some(bytes);
+    let again = if same { "same" } else { "differ" };
+    let _ = print!(rt;
+        "; {} {count} {again} {}",
+        answer::number(written),
+        kept(&out, count)
+    );
+    count
 }
 
 // Writes the expression into an output one byte short of what it needs.
-fn print_short(rt: &impl Print, expression: Expression, needed: usize) {
-    if needed == 0 {
+fn print_short(rt: &impl Print, expression: &Expression, needed: usize) {
+    let mut out = [BLANK; ROOM];
+    if needed == 0 || ROOM < needed {
         return;
     }
-    let room = needed - 1;
-    if ROOM < room {
-        return;
-    }
-    let mut out = blanks();
-    let written = write_short(expression, &mut out, room);
-    let answer = written.answer;
-    print(rt, b";");
-    print_answer(rt, answer);
-    print_blank(rt, &out, 0);
+    let written = token_writer::write_expression(expression, &mut out[..needed - 1]);
+    let _ = print!(rt; "; {} {}", answer::number(written), kept(&out, 0));
 }
 
 fn case(rt: &impl Print, number: usize, bytes: &[u8]) {
-    print_number(rt, number as u64);
-    print_next(rt, bytes.len() as u64);
-    let tokens = token_reader::read(bytes);
-    let answer = tokens.answer;
-    let expression = tokens.expression;
-    print_answer(rt, answer);
-    if answer.number() == 0 {
-        print_elements(rt, expression);
-        print_values(rt, expression);
-        print_counted(rt, expression);
-        let needed = print_written(rt, expression, bytes);
-        print_short(rt, expression, needed);
+    let read = token_reader::read(bytes);
+    let _ = print!(rt; "{number} {} {}", bytes.len(), answer::number(read));
+    if let Ok(expression) = read {
+        print_elements(rt, &expression);
+        print_values(rt, &expression);
+        print_counted(rt, &expression);
+        let needed = print_written(rt, &expression, bytes);
+        print_short(rt, &expression, needed);
     }
-    print(rt, b"\n");
-}
-
-fn all_cases(rt: &impl Print, input: &[u8], count: usize) {
-    for number in 0..count {
-        let bytes = cases::case_of(input, number);
-        case(rt, number + 1, bytes);
-    }
+    let _ = println!(rt);
 }
 
 // Runs every case of the input, and says how many there were and what is left over.
 fn run(rt: &(impl Print + Input), input: &[u8]) {
-    let held = cases::held(input);
-    all_cases(rt, input, held.count);
+    for (number, bytes) in Cases::new(input) {
+        // The lines count from 1.
+        case(rt, number.saturating_add(1), bytes);
+    }
     cases::print_end(rt, b"expression_test", input);
 }
 
-fn print_byte(rt: &impl Print, byte: u8) {
-    let _ = print!(rt; "{byte:02x}");
-}
-
-fn print_bytes(rt: &impl Print, out: &[u8], count: usize) {
+// Writes a list of numbers into an output of so many bytes.
+fn list(rt: &impl Print, codes: &[u64], room: usize)
+    requires { room ≤ 400 }
+{
+    let mut out = [BLANK; ROOM];
+    let written = token_writer::write(codes, &mut out[..room]);
+    let count = written.unwrap_or(0);
+    let _ = print!(rt;
+        "list {} {room}: {} {count} {}",
+        codes.len(),
+        answer::number(written),
+        kept(&out, count)
+    );
     if 0 < count {
-        print(rt, b" ");
+        let _ = print!(rt; " ");
     }
-    let mut i = 0;
-    while i < out.len() {
-        if count <= i {
-            return;
-        }
-        print_byte(rt, out[i]);
-        i += 1;
+    for byte in out.iter().take(count) {
+        let _ = print!(rt; "{byte:02x}");
     }
+    let _ = println!(rt);
 }
 
-fn print_output(rt: &impl Print, written: Written, out: &[u8]) {
-    let answer = written.answer;
-    print(rt, b":");
-    print_answer(rt, answer);
-    print_next(rt, written.count as u64);
-    print_blank(rt, out, written.count);
-    print_bytes(rt, out, written.count);
-    print(rt, b"\n");
-}
-
-// Writes the first numbers of a list into the first bytes of an output.
-fn write_list(codes: &[u64], count: usize, out: &mut [u8], room: usize) -> Written
-    requires { (count ≤ length codes.now) × (room ≤ length out.old) }
-{
-    token_writer::write(&codes[..count], &mut out[..room])
-}
-
-// Writes the first numbers of a list into an output of so many bytes.
-fn list(rt: &impl Print, codes: &[u64], count: usize, room: usize)
-    requires { (count ≤ length codes.now) × (room ≤ 400) }
-{
-    let mut out = blanks();
-    let written = write_list(codes, count, &mut out, room);
-    print(rt, b"list");
-    print_next(rt, count as u64);
-    print_next(rt, room as u64);
-    print_output(rt, written, &out);
-}
-
-// No elements, and document 002's example.
+// No elements, and an expression of seven.
 fn short_lists(rt: &impl Print) {
     let row = [2, 1, AND, 3, OR, 0, AND];
-    list(rt, &row, 0, 2);
-    list(rt, &row, 0, 1);
-    list(rt, &row, 0, 0);
-    list(rt, &row, 0, 3);
-    list(rt, &row, 7, 74);
-    list(rt, &row, 7, 73);
-    list(rt, &row, 7, 75);
-    list(rt, &row, 7, 0);
-    list(rt, &row, 1, 14);
-    list(rt, &row, 1, 13);
+    for room in [2, 1, 0, 3] {
+        list(rt, &[], room);
+    }
+    for room in [74, 73, 75, 0] {
+        list(rt, &row, room);
+    }
+    list(rt, &[2], 14);
+    list(rt, &[2], 13);
 }
 
 // One element.
-fn single(rt: &impl Print, code: u64, room: usize)
-    requires { room ≤ 400 }
-{
-    let one = [code];
-    list(rt, &one, 1, room);
-}
-
 fn singles(rt: &impl Print) {
-    single(rt, 4_294_967_295, 14);
-    single(rt, AND, 10);
-    single(rt, OR, 10);
-    single(rt, NOT, 10);
-    single(rt, NOT, 9);
-    single(rt, NONE, 10);
-    single(rt, NONE, 0);
-    single(rt, 18_446_744_073_709_551_615, 400);
-    single(rt, 305_419_896, 400);
+    list(rt, &[4_294_967_295], 14);
+    list(rt, &[AND], 10);
+    list(rt, &[OR], 10);
+    list(rt, &[NOT], 10);
+    list(rt, &[NOT], 9);
+    list(rt, &[NONE], 10);
+    list(rt, &[NONE], 0);
+    list(rt, &[18_446_744_073_709_551_615], 400);
+    list(rt, &[305_419_896], 400);
 }
 
 // The first of forty operators.
 fn long_lists(rt: &impl Print) {
     let codes = [NOT; 40];
-    list(rt, &codes, 31, 400);
-    list(rt, &codes, 32, 258);
-    list(rt, &codes, 32, 257);
-    list(rt, &codes, 33, 400);
-    list(rt, &codes, 40, 400);
-    list(rt, &codes, 40, 0);
+    list(rt, &codes[..31], 400);
+    list(rt, &codes[..32], 258);
+    list(rt, &codes[..32], 257);
+    list(rt, &codes[..33], 400);
+    list(rt, &codes, 400);
+    list(rt, &codes, 0);
 }
 
 // The same with another number at a place.
@@ -361,7 +215,7 @@ fn list_with(rt: &impl Print, at: usize, code: u64, count: usize, room: usize)
 {
     let mut codes = [NOT; 40];
     codes[at] = code;
-    list(rt, &codes, count, room);
+    list(rt, &codes[..count], room);
 }
 
 // A number that is no element, at the list's start, past place 32 and about it.

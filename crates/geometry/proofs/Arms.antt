@@ -1,19 +1,21 @@
 -- What the arms of a transfer and of a geometry come to, over the values that their calls hand back.
-use mathlib.Core.Path.{◌≡◌, refl, sym, ap, ◌∙◌, subst}
-use Prim.Native.Nat.{ℕ, ◌+◌, ◌-◌, ◌≤◌, ◌<◌}
+use mathlib.Core.Path.{◌≡◌, refl, sym, ap, ◌∙◌}
+use Prim.Native.Nat.{ℕ, zero, suc, ◌-◌, ◌≤◌, ◌<◌}
 use native.Mathlib.Omega.{arith}
 use mathlib.Core.Bool.{Bool, true, false, cond}
-use mathlib.Core.List.{List}
-use borrow.Author.Tests.{le-ltb, ltb-false, ne_eqb}
+use mathlib.Core.List.{List, [], ◌∷◌}
+use borrow.Author.Tests.{le-ltb, ltb-false, eq-eqb, ne_eqb}
 use lib.Dec.{eqb, ltb}
+use lib.ListN.{get_or, set}
 use Rattle.base.specs.Rows.{is_row}
-use Rattle.base.proofs.Rows.{is-row}
-use Rattle.base.proofs.Cases.{cond-true, cond-false, behind, or_no, neither}
-use Rattle.answer.specs.declared.Answer.{Answer}
-use Rattle.answer.specs.declared.Answer.TheVariants.{Done, Overlap}
+use Rattle.base.proofs.Rows.{is-row, no_room, not-counted}
+use Rattle.base.proofs.Cases.{cond-true, cond-false, absent, behind, or_no, neither}
+use Rattle.std.specs.Prelude.{Ok, Err}
+use Rattle.answer.specs.declared.Refusal.{Refusal}
+use Rattle.answer.specs.declared.Refusal.TheVariants.{NoRow, Global, PastEnd, Overlap}
 use Rattle.answer.specs.Numbers.{number_of}
+use Rattle.answer.proofs.Injective.{refusal_number}
 use Rattle.geometry.specs.declared.Span.{Span}
-use Rattle.geometry.specs.declared.Placed.{Placed}
 use Rattle.geometry.specs.Blocks.{band_spans, overlapping}
 use Rattle.geometry.specs.Events.{past_end, placed, place_answer, place_of, Places, Allowed}
 
@@ -28,24 +30,46 @@ module _ (capacity start count : ℕ) where
       let t : (ltb capacity start ≡ false) × (ltb (capacity - start) count ≡ false) = neither _ _ e in
       (ltb-false _ _ t.0, ltb-false _ _ t.1)
 
-  -- a range that ends on the drive: the number of its last block is no larger than a word
-  pub in-word : (t : Bool) → t ≡ past_end capacity start count → t ≡ false → capacity < 18446744073709551616
-      → start + count < 18446744073709551616
-  in-word t e q h = let b : (start ≤ capacity) × (count ≤ capacity - start) = end-up-to (sym e ∙ q) in omega arith
+-- a span put back where it stood
+pub put_back : (l : List Span) (i : ℕ) (a d : Span) → set (set l i a) i (get_or l i d) ≡ l
+put_back [] i a d = refl
+put_back (s ∷ l) zero a d = refl
+put_back (s ∷ l) (suc i) a d = ap (λ (k : List Span). s ∷ k) (put_back l i a d)
 
 -- a geometry's answer, and the spans that go with it
 
 module _ (capacity bands : ℕ) (spans : List Span) (band start length : ℕ) where
-  pub refused : (a : Answer) (r : Placed) → r ≡ record { answer = a; spans = spans }
-      → number_of a ≡ place_answer capacity bands spans band start length → eqb (number_of a) 0 ≡ false
-      → Places capacity bands spans band start length r
+  pub refused : (a : Refusal) (after : List Span) → after ≡ spans → number_of a ≡ place_answer capacity bands spans band start length
+      → Places capacity bands spans band start length (Err a) after
   unfolding place_of
-  refused a r f e q =
-      subst (Places capacity bands spans band start length) (sym f)
-      (record { answer = e; after = cond-false _ _ _ _ (ap (λ (n : ℕ). eqb n 0) (sym e) ∙ q) refl })
+  refused a after f e =
+      let n : number_of a ≡ 0 → ⊥ = λ q. omega (arith, refusal_number a, q) in
+      record { answer = e; after = f ∙ cond-false _ _ _ _ (ap (λ (n : ℕ). eqb n 0) (sym e) ∙ ne_eqb _ _ n) refl }
+
+  -- the answers that need no place
+  pub no_row : 16 ≤ band → Places capacity bands spans band start length (Err NoRow) spans
+  unfolding place_answer
+  no_row h = refused NoRow spans refl (absent (is_row bands band) _ _ _ (no_room bands band h) refl)
+
+  pub no_band : bands ≤ band → Places capacity bands spans band start length (Err NoRow) spans
+  unfolding place_answer
+  no_band h = refused NoRow spans refl (absent (is_row bands band) _ _ _ (not-counted bands band h) refl)
+
+  pub band_zero : band < bands → band ≡ 0 → Places capacity bands spans band start length (Err Global) spans
+  unfolding place_answer
+  band_zero k e =
+      refused Global spans refl
+      (behind (is_row bands band) _ _ 1 (is-row bands band (omega (arith, k, e)) (omega (arith, e))) (cond-true _ _ _ _ (eq-eqb band 0 e) refl))
+
+  pub far_place : (t : Bool) → t ≡ past_end capacity start length → t ≡ true → band < bands → band < 16 → (band ≡ 0 → ⊥)
+      → Places capacity bands spans band start length (Err PastEnd) spans
+  unfolding place_answer
+  far_place t e q k h n =
+      refused PastEnd spans refl
+      (behind (is_row bands band) _ _ 1 (is-row bands band k h) (cond-false _ _ _ _ (ne_eqb band 0 n) (cond-true _ _ _ _ (sym e ∙ q) refl)))
 
   done : 0 ≡ place_answer capacity bands spans band start length
-      → Places capacity bands spans band start length (record { answer = Done; spans = placed spans band start length })
+      → Places capacity bands spans band start length (Ok tt) (placed spans band start length)
   unfolding place_of
   done e = record { answer = e; after = cond-true _ _ _ _ (ap (λ (n : ℕ). eqb n 0) (sym e)) refl }
 
@@ -67,9 +91,8 @@ module _ (capacity bands : ℕ) (spans : List Span) (band start length : ℕ) wh
         let b : (start ≤ capacity) × (length ≤ capacity - start) = end-up-to capacity start length (sym ep ∙ q) in
         record { known = k; row = h; local = omega (arith, n); begins = b.0; ends = b.1 }
 
-    pub place-refused : (r : Placed) → r ≡ record { answer = Overlap; spans = spans } → t ≡ true → Places capacity bands spans band start length r
-    place-refused r f w = refused Overlap r f (cond-true _ _ _ _ (sym e ∙ w) refl ∙ sym (placing allowed)) refl
+    pub place_refused : (after : List Span) → after ≡ spans → t ≡ true → Places capacity bands spans band start length (Err Overlap) after
+    place_refused after f w = refused Overlap after f (cond-true _ _ _ _ (sym e ∙ w) refl ∙ sym (placing allowed))
 
-    pub place-done : t ≡ false
-        → Places capacity bands spans band start length (record { answer = Done; spans = placed spans band start length })
-    place-done w = done (cond-false _ _ _ _ (sym e ∙ w) refl ∙ sym (placing allowed))
+    pub place_done : t ≡ false → Places capacity bands spans band start length (Ok tt) (placed spans band start length)
+    place_done w = done (cond-false _ _ _ _ (sym e ∙ w) refl ∙ sym (placing allowed))

@@ -1,17 +1,19 @@
 -- The band of a block: the band that covers it, else band 0. Where bands overlap, the first that covers it.
-use mathlib.Core.Path.{◌≡◌, refl, sym, ◌∙◌, subst}
+use mathlib.Core.Path.{◌≡◌, refl, sym, ap, ◌∙◌, subst}
 use Prim.Native.Nat.{ℕ, zero, suc, ◌+◌, ◌-◌, ◌≤◌, ◌<◌}
 use native.Mathlib.Omega.{arith}
-use mathlib.Core.Bool.{Bool, true, false, cond, not, ◌||◌, false≢true}
-use mathlib.Core.List.{List, [], ◌∷◌, foldl}
-use lib.ListN.{length, get_or}
+use mathlib.Core.Bool.{Bool, true, false, cond, false≢true}
+use mathlib.Core.List.{List, [], ◌∷◌}
+use borrow.Author.Tests.{ltb-true, ltb-false}
+use lib.Dec.{ltb}
+use lib.ListN.{length, get_or, get_or-eq_default}
+use Rattle.std.specs.List.{list_any}
 use Rattle.base.proofs.Cases.{cond-true, cond-false, and_yes, neither}
 use Rattle.geometry.specs.declared.Span.{Span}
-use Rattle.geometry.specs.Blocks.{covers, band_from, band_of, overlapping, band_spans, span_of, closed_at, touches_of, Lying}
-use Rattle.geometry.specs.Parts.{Barred}
+use Rattle.geometry.specs.Blocks.{covers, any_block, band_from, band_of, overlapping, band_spans, span_of, Lying}
+use Rattle.geometry.specs.Parts.{closed_in, bars_at}
 use Rattle.geometry.proofs.Ranges.{any_at, any_none, refuted}
-use Rattle.base.proofs.Rows.{get_d_any}
-use Rattle.geometry.proofs.Sharing.{no_block, pair-at, at-band, below, of-band}
+use Rattle.geometry.proofs.Sharing.{empty, no_block, pair-at, at-band, below, of-band}
 
 first-at : (k : ℕ) (l : List Span) (j x : ℕ) → covers (span_of l j) x ≡ true → ((i : ℕ) → i < j → covers (span_of l i) x ≡ false)
     → band_from k l x ≡ k + j
@@ -61,44 +63,38 @@ module _ (bands : ℕ) (spans : List Span) (block : ℕ) where
 pub lying : Lying
 lying = record { covered = band-of; else-global = band-zero }
 
--- no band is closed
-once-true : (l : List Bool) → foldl ◌||◌ true l ≡ true
-once-true [] = refl
-once-true (b ∷ l) = once-true l
+-- no band is closed: a test that `true` passes is passed by none of the sides
+all-false : (p : Bool → Bool) → p true ≡ true → (l : List Bool) (k : ℕ) → list_any p l ≡ false → get_or l k false ≡ false
+all-false p h [] k e = refl
+all-false p h (true ∷ l) k e = absurd (false≢true (sym (neither (p true) (list_any p l) e).0 ∙ h))
+all-false p h (false ∷ l) zero e = refl
+all-false p h (false ∷ l) (suc k) e = all-false p h l k (neither (p false) (list_any p l) e).1
 
-all-false : (l : List Bool) (k : ℕ) → foldl ◌||◌ false l ≡ false → get_or l k false ≡ false
-all-false [] k e = refl
-all-false (true ∷ l) k e = absurd (false≢true (sym e ∙ once-true l))
-all-false (false ∷ l) zero e = refl
-all-false (false ∷ l) (suc k) e = all-false l k e
-
-denied : (t : Bool) → not t ≡ true → t ≡ false
-denied true e = absurd (false≢true e)
-denied false e = refl
-
-pub none-closed : (bands : ℕ) (spans : List Span) (closed : List Bool) (start count : ℕ) (t : Bool) → t ≡ foldl ◌||◌ false closed → not t ≡ true
-    → false ≡ touches_of bands spans closed start count
-none-closed bands spans closed start count t e q =
-    sym (any_none (closed_at bands spans closed) start count (λ y u v. all-false closed (band_of bands spans y) (sym e ∙ denied t q)))
+pub none_closed : (spans : List Span) (closed : List Bool) (start count : ℕ) (p : Bool → Bool) (t : Bool) → t ≡ list_any p closed → p true ≡ true → t ≡ false
+    → false ≡ any_block (closed_in spans closed) start count
+none_closed spans closed start count p t e h q =
+    sym (any_none (closed_in spans closed) start count (λ y u v. all-false p h closed (band_from 1 spans y) (sym e ∙ q)))
 
 -- a range in which no closed band has a block, and band 0 is not closed
-module _ (bands : ℕ) (spans : List Span) (closed : List Bool) (start count : ℕ) (r : Bool)
-    (b : Barred bands spans closed (record { start = start; length = count }) r) where
-  pub barred-none : (z t : Bool) → length closed ≡ 16 → t ≡ (r || get_or closed 0 z) → t ≡ false → false ≡ touches_of bands spans closed start count
-  unfolding band_of
-  barred-none z t w e q =
-      let p : (r ≡ false) × (get_or closed 0 z ≡ false) = neither _ _ (sym e ∙ q) in
-      sym
-      (any_none (closed_at bands spans closed) start count
-      (λ y u v.
-      band-cases (λ (k : ℕ). get_or closed k false ≡ false) 1 (band_spans bands spans) y
-      (get_d_any closed 0 false z (omega arith) ∙ p.1)
-      (clear p.0 y u v)))
-    where
-      clear : r ≡ false → (y : ℕ) → start ≤ y → y < start + count → (j : ℕ) → covers (span_of (band_spans bands spans) j) y ≡ true
-          → get_or closed (1 + j) false ≡ false
-      clear f y u v j e =
-          refuted _
-          (λ t. false≢true
-          (sym (b.none f (1 + j) (omega arith) (below bands spans j y e))
-          ∙ sym (and_yes _ _ _ t (sym (any_at (covers (span_of spans (1 + j))) start count y u v (at-band bands spans j y e))))))
+pub barred_none : (spans : List Span) (closed : List Bool) (range : Span) → get_or closed 0 false ≡ false
+    → ((i : ℕ) → i < length spans → bars_at spans closed range i ≡ false) → false ≡ any_block (closed_in spans closed) range.start range.length
+barred_none spans closed range z f =
+    sym
+    (any_none (closed_in spans closed) range.start range.length
+    (λ y u v. band-cases (λ (k : ℕ). get_or closed k false ≡ false) 1 spans y z (λ j e. clear y u v j e)))
+  where
+    within : (j y : ℕ) → covers (span_of spans j) y ≡ true → j < length spans
+    within j y e = go (ltb j (length spans)) refl
+      where
+        go : (b : Bool) → ltb j (length spans) ≡ b → j < length spans
+        go true q = ltb-true _ _ q
+        go false q =
+            no_block y (sym (ap (λ (s : Span). covers s y) (get_or-eq_default spans empty {n = j} (ltb-false _ _ q))) ∙ e)
+
+    clear : (y : ℕ) → range.start ≤ y → y < range.start + range.length → (j : ℕ) → covers (span_of spans j) y ≡ true → get_or closed (1 + j) false ≡ false
+    clear y u v j e =
+        let q : 1 + j ≡ j + 1 = omega arith in
+        rw q
+        (refuted _
+        (λ t. false≢true
+        (sym (f j (within j y e)) ∙ sym (and_yes _ _ _ t (sym (any_at (covers (span_of spans j)) range.start range.length y u v e))))))

@@ -1,6 +1,6 @@
 -- One span, and two: what the code's differences say of the blocks.
-use mathlib.Core.Path.{◌≡◌, refl, sym, ◌∙◌}
-use Prim.Native.Nat.{ℕ, ◌+◌, ◌-◌, ◌≤◌, ◌<◌, min}
+use mathlib.Core.Path.{◌≡◌, refl, sym}
+use Prim.Native.Nat.{ℕ, ◌+◌, ◌-◌, ◌≤◌, ◌<◌}
 use native.Mathlib.Omega.{arith}
 use mathlib.Core.Bool.{Bool, true, false}
 use borrow.Author.Tests.{ltb-true, ltb-false, leb-true, lt-ltb, le-ltb, le-leb, lt-leb}
@@ -8,7 +8,6 @@ use lib.Dec.{ltb, leb}
 use Rattle.base.proofs.Cases.{and_yes, and_no}
 use Rattle.geometry.specs.declared.Span.{Span}
 use Rattle.geometry.specs.Blocks.{covers, meets_of}
-use Rattle.geometry.specs.Parts.{Alike}
 use Rattle.geometry.proofs.Ranges.{any_at, any_none, both}
 
 module _ (s : Span) where
@@ -25,37 +24,6 @@ module _ (s : Span) where
   covered x e =
       let t : (leb s.start x ≡ true) × (ltb x (s.start + s.length) ≡ true) = both _ _ e in
       (leb-true _ _ t.0, ltb-true _ _ t.1)
-
-  -- the code's test
-  pub covers-test : (x : ℕ) → s.start ≤ x → ltb (x - s.start) s.length ≡ covers s x
-  covers-test x h = go (ltb (x - s.start) s.length) refl
-    where
-      go : (b : Bool) → ltb (x - s.start) s.length ≡ b → b ≡ covers s x
-      go true e = sym (inside x h (omega (arith, ltb-true)))
-      go false e = sym (past x (omega (arith, ltb-false)))
-
-  -- the blocks that are alike
-
-  pub alike-ahead : (x n r : ℕ) → 0 < n → x < s.start → r ≡ min n (s.start - x) → Alike s x n r
-  alike-ahead x n r h k e = record {
-    some_left = omega arith;
-    most = omega arith;
-    same = λ y u v. ahead y (omega arith) ∙ sym (ahead x k);
-  }
-
-  pub alike-inside : (x n q r : ℕ) → 0 < n → s.start ≤ x → q ≡ x - s.start → q < s.length → r ≡ min n (s.length - q) → Alike s x n r
-  alike-inside x n q r h k f l e = record {
-    some_left = omega arith;
-    most = omega arith;
-    same = λ y u v. inside y (omega arith) (omega arith) ∙ sym (inside x k (omega arith));
-  }
-
-  pub alike-past : (x n q : ℕ) → 0 < n → s.start ≤ x → q ≡ x - s.start → s.length ≤ q → Alike s x n n
-  alike-past x n q h k f l = record {
-    some_left = omega arith;
-    most = omega arith;
-    same = λ y u v. past y (omega arith) ∙ sym (past x (omega arith));
-  }
 
 -- two spans, by which of them starts first
 module _ (s t : Span) where
@@ -82,3 +50,5 @@ module _ (s t : Span) where
       go : (b : Bool) → ltb (s.start - t.start) t.length ≡ b → b ≡ meets_of s t
       go true e = sym (any_at (covers t) _ _ s.start (omega arith) (omega (arith, k)) (inside t _ h (omega (arith, ltb-true))))
       go false e = sym (any_none (covers t) _ _ (λ y u v. past t y (omega (arith, ltb-false))))
+
+pub ruleset meeting = (meets-empty, meets-none, meets-ahead, meets-behind)

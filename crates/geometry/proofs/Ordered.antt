@@ -1,16 +1,14 @@
 -- Bands of which each lies before all after it: no two of them share a block. The loop goes from the last band down.
-use mathlib.Core.Path.{◌≡◌, refl, sym, ap, ◌∙◌, subst}
-use Prim.Native.Nat.{ℕ, zero, suc, ◌+◌, ◌-◌, ◌≤◌, ◌<◌, min}
+use mathlib.Core.Path.{◌≡◌, refl, sym, ap, ◌∙◌}
+use Prim.Native.Nat.{ℕ, zero, suc, ◌-◌, ◌≤◌, ◌<◌}
 use native.Mathlib.Omega.{arith}
-use mathlib.Core.Bool.{Bool, true, false}
-use mathlib.Core.List.{List, [], ◌∷◌}
-use lib.ListN.{length, get_or, take, drop}
-use Rattle.base.proofs.Cases.{or_no, neither}
+use mathlib.Core.Bool.{true, false}
+use mathlib.Core.List.{List, [], ◌∷◌, ◌++◌, append_assoc, append-nil}
+use Rattle.base.proofs.Cases.{or_no}
 use Rattle.geometry.specs.declared.Span.{Span}
-use Rattle.geometry.specs.Blocks.{covers, meets_any, overlapping, band_spans, span_of}
+use Rattle.geometry.specs.Blocks.{covers, meets_any, overlapping, span_of}
 use Rattle.geometry.proofs.Ranges.{refuted}
 use Rattle.geometry.proofs.Covering.{covered}
-use Rattle.geometry.proofs.Scans.{tail_at, tail-end}
 use Rattle.geometry.proofs.Sharing.{no_block, Met, met-there}
 
 -- no two spans of the list share a block, and no block of them lies below `low`
@@ -47,50 +45,28 @@ module _ (low : ℕ) (s : Span) (l : List Span) (o : Ordered low l) where
 
 -- ---- the loop
 
-pub record Rises (bands : ℕ) (spans : List Span) (low i : ℕ) : Type 0 where
-  pub known : i ≤ bands
-  pub row : i ≤ 16
-  pub ordered : Ordered low (drop i (take bands spans))
+-- of the spans those of `rest` are to be looked at, and the others are in order
+pub record Rises (spans : List Span) (low : ℕ) (rest : List Span) : Type 0 where
+  pub done : List Span
+  pub parts : spans ≡ rest ++ done
+  pub ordered : Ordered low done
 
-pub rise-begin : (bands : ℕ) (spans : List Span) (low i : ℕ) → length spans ≡ 16 → i ≡ min bands 16 → Rises bands spans low i
-rise-begin bands spans low i e h = record {
-  known = omega arith;
-  row = omega arith;
-  ordered = subst (Ordered low) (sym (tail-end spans bands i e (omega arith))) (ordered-none low);
-}
+pub rise_begin : (spans : List Span) (low : ℕ) → Rises spans low spans
+rise_begin spans low = record { done = []; parts = sym (append-nil spans); ordered = ordered-none low }
 
-module _ (bands : ℕ) (spans : List Span) (low i : ℕ) (r : Rises bands spans low i) (long : length spans ≡ 16) (z : Span) (h : 1 < i) where
-  next : drop (i - 1) (take bands spans) ≡ get_or spans (i - 1) z ∷ drop i (take bands spans)
-  next =
-      let e : i - 1 + 1 ≡ i = omega arith in
-      tail_at spans bands (i - 1) z long (omega (arith, r.row)) (omega (arith, r.known))
-      ∙ ap (λ (k : ℕ). get_or spans (i - 1) z ∷ drop k (take bands spans)) e
+module _ (spans : List Span) (low : ℕ) (rest : List Span) (r : Rises spans low rest) (before : List Span) (s : Span) (e : rest ≡ before ++ s ∷ []) where
+  parted : spans ≡ before ++ s ∷ r.done
+  parted = r.parts ∙ ap (λ (k : List Span). k ++ r.done) e ∙ append_assoc before (s ∷ []) r.done
 
-  pub rise-again : (get_or spans (i - 1) z).start < low → (get_or spans (i - 1) z).length ≤ low - (get_or spans (i - 1) z).start
-      → Rises bands spans (get_or spans (i - 1) z).start (i - 1)
-  rise-again b l = record {
-    known = omega (arith, r.known);
-    row = omega (arith, r.row);
-    ordered = subst (Ordered (get_or spans (i - 1) z).start) (sym next) (below low (get_or spans (i - 1) z) _ r.ordered b l);
-  }
+  pub rise_again : s.start < low → s.length ≤ low - s.start → Rises spans s.start before
+  rise_again b l = record { done = s ∷ r.done; parts = parted; ordered = below low s _ r.ordered b l }
 
-  pub rise-over : (get_or spans (i - 1) z).length ≤ 0 → Rises bands spans low (i - 1)
-  rise-over l = record {
-    known = omega (arith, r.known);
-    row = omega (arith, r.row);
-    ordered = subst (Ordered low) (sym next) (empty low (get_or spans (i - 1) z) _ r.ordered l);
-  }
+  pub rise_over : s.length ≤ 0 → Rises spans low before
+  rise_over l = record { done = s ∷ r.done; parts = parted; ordered = empty low s _ r.ordered l }
 
-fewer : (l : List Span) (i : ℕ) → i ≤ 1 → overlapping (drop i l) ≡ false → overlapping (drop 1 l) ≡ false
-fewer l (suc zero) h e = e
-fewer l (suc (suc i)) h e = absurd (omega arith)
-fewer [] zero h e = refl
-fewer (s ∷ l) zero h e = (neither (meets_any s l) (overlapping l) e).1
+pub rise_done : (spans : List Span) (low : ℕ) (rest : List Span) → Rises spans low rest → rest ≡ [] → overlapping spans ≡ false
+rise_done spans low rest r e =
+    let q : spans ≡ r.done = r.parts ∙ ap (λ (k : List Span). k ++ r.done) e in
+    ap overlapping q ∙ r.ordered.apart
 
-pub rise-done : (bands : ℕ) (spans : List Span) (low i : ℕ) (b : Bool) → Rises bands spans low i → i ≤ 1 → b ≡ true
-    → overlapping (band_spans bands spans) ≡ false
-rise-done bands spans low i b r h e = fewer (take bands spans) i h r.ordered.apart
-
--- the bands rise: no pair of them is looked at
-pub no-pair : (t w : Bool) → (t ≡ true → w ≡ false) → t ≡ true → false ≡ w
-no-pair t w f e = sym (f e)
+pub ruleset rises = (rise_begin, rise_again, rise_over, rise_done)

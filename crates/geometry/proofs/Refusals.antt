@@ -9,11 +9,12 @@ use borrow.Author.Tests.{eqb-false, not-false}
 use lib.Dec.{eqb}
 use Rattle.base.specs.Rows.{is_row}
 use Rattle.base.proofs.Cases.{cond-true, cond-false}
-use Rattle.answer.specs.declared.Answer.{Answer}
-use Rattle.answer.specs.Numbers.{number_of}
+use Rattle.std.specs.Prelude.{Result}
+use Rattle.answer.specs.declared.Refusal.{Refusal}
+use Rattle.answer.specs.Numbers.{answer_number}
 use Rattle.geometry.specs.declared.Span.{Span}
-use Rattle.geometry.specs.declared.Placed.{Placed}
-use Rattle.geometry.specs.Blocks.{band_spans, overlapping}
+use Rattle.geometry.specs.Blocks.{any_block, band_of, band_spans, overlapping}
+use Rattle.geometry.specs.Parts.{closed_in}
 use Rattle.geometry.specs.Events.{past_end, transfer_answer, placed, place_answer, Places, LockedTransfer, Allowed, OverlapRefused}
 use Rattle.geometry.proofs.Ranges.{any-block}
 use Rattle.geometry.proofs.Sharing.{shared-block}
@@ -55,11 +56,25 @@ module _ (capacity bands : ℕ) (spans : List Span) (closed : List Bool) (start 
       (cond-false _ _ _ _ (up-to-end _ _ _ r.begins r.ends)
       (cond-true _ _ _ _ ((any-block _ _ _).1 r.touched) refl))
 
-  -- P10: both promises of a transfer
-  pub and-locked : (r : Answer) → number_of r ≡ transfer_answer capacity bands spans closed start count
-      → (number_of r ≡ transfer_answer capacity bands spans closed start count)
-      × ((number_of r ≡ 9) ↔ LockedTransfer capacity bands spans closed start count)
-  and-locked r e = (e, (λ q. locked-there (sym e ∙ q), λ l. e ∙ locked-at l))
+  -- a transfer's answer, by what its tests say; the second over the spans of the bands from 1 on
+  pub far_transfer : past_end capacity start count ≡ true → 6 ≡ transfer_answer capacity bands spans closed start count
+  unfolding transfer_answer
+  far_transfer e = cond-true _ _ _ _ e refl
+
+  pub locked_transfer : past_end capacity start count ≡ false → any_block (closed_in (band_spans bands spans) closed) start count ≡ true
+      → 9 ≡ transfer_answer capacity bands spans closed start count
+  unfolding transfer_answer band_of
+  locked_transfer e q = cond-false _ _ _ _ e (cond-true _ _ _ _ q refl)
+
+  pub done_transfer : past_end capacity start count ≡ false → any_block (closed_in (band_spans bands spans) closed) start count ≡ false
+      → 0 ≡ transfer_answer capacity bands spans closed start count
+  unfolding transfer_answer band_of
+  done_transfer e q = cond-false _ _ _ _ e (cond-false _ _ _ _ q refl)
+
+  -- the second promise of a transfer, by the first
+  pub and_locked : (r : ℕ) → r ≡ transfer_answer capacity bands spans closed start count
+      → (r ≡ 9) ↔ LockedTransfer capacity bands spans closed start count
+  and_locked r e = (λ q. locked-there (sym e ∙ q), λ l. e ∙ locked-at l)
 
 module _ (capacity bands : ℕ) (spans : List Span) (band start length : ℕ) where
   -- an answer that is none of 1, 5 and 6
@@ -84,8 +99,9 @@ module _ (capacity bands : ℕ) (spans : List Span) (band start length : ℕ) wh
   overlap-at : OverlapRefused capacity bands spans band start length → place_answer capacity bands spans band start length ≡ 7
   overlap-at r = placing capacity bands spans band start length r.allowed ∙ sym (cond-true _ _ _ _ ((shared-block _ _).1 r.shared) refl)
 
-  -- P11: both promises of a geometry
-  pub and-overlap : (r : Placed) → Places capacity bands spans band start length r
-      → Places capacity bands spans band start length r
-      × ((number_of r.answer ≡ 7) ↔ OverlapRefused capacity bands spans band start length)
-  and-overlap r p = (p, (λ q. overlap-there (sym p.answer ∙ q), λ o. p.answer ∙ overlap-at o))
+  -- the second promise of a geometry, by the first
+  pub and_overlap : (r : Result (Unit {0}) Refusal) (after : List Span) → Places capacity bands spans band start length r after
+      → (answer_number r ≡ 7) ↔ OverlapRefused capacity bands spans band start length
+  and_overlap r after p = (λ q. overlap-there (sym p.answer ∙ q), λ o. p.answer ∙ overlap-at o)
+
+pub ruleset transfers = (far_transfer, locked_transfer, done_transfer, and_locked)

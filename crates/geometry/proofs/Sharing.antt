@@ -9,6 +9,7 @@ use borrow.Author.Tests.{ltb-true, ltb-false}
 use lib.Dec.{ltb}
 use lib.ListN.{take, length-take, get_or-eq_default}
 use lib.Seq.{get_or-drop, get_or-take}
+use Rattle.std.specs.List.{list_any}
 use Rattle.base.proofs.Cases.{or_yes}
 use Rattle.geometry.specs.declared.Span.{Span}
 use Rattle.geometry.specs.Blocks.{covers, meets_of, meets_any, overlapping, band_spans, span_of, BlockIn, SharedBlock}
@@ -40,6 +41,11 @@ later-met s t l r = record { other = suc r.other; block = r.block; here = r.here
 either-met : (s t : Span) (l : List Span) (b : Bool) → meets_of s t ≡ b → (b || meets_any s l) ≡ true → (meets_any s l ≡ true → Met s l) → Met s (t ∷ l)
 either-met s t l true h e f = first-met s t l h
 either-met s t l false h e f = later-met s t l (f e)
+
+-- the test by std's word
+pub some_met : (s : Span) (l : List Span) → list_any (λ t. meets_of s t) l ≡ meets_any s l
+some_met s [] = refl
+some_met s (t ∷ l) = ap (λ (b : Bool). meets_of s t || b) (some_met s l)
 
 pub met-there : (s : Span) (l : List Span) → meets_any s l ≡ true → Met s l
 met-there s [] e = absurd (false≢true e)

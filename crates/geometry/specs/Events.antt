@@ -1,10 +1,10 @@
 -- Document 01, the table of refusals and 'Geometry and transfers': a geometry's and a transfer's answer.
-use Rattle.std.specs.Prelude.{◌≡◌, ℕ, ◌+◌, ◌-◌, ◌≤◌, ◌<◌, Bool, not, cond, ◌||◌, List, [], ◌∷◌, eqb, ltb, set}
-use Rattle.base.specs.Refusals.{Refusal, when, first_of}
+use Rattle.std.specs.Prelude.{◌≡◌, ℕ, ◌+◌, ◌-◌, ◌≤◌, ◌<◌, Bool, not, cond, ◌||◌, List, [], ◌∷◌, eqb, ltb, set, Result}
+use Rattle.base.specs.Refusals.{TableRow, when, first_of}
 use Rattle.base.specs.Rows.{is_row}
-use Rattle.answer.specs.Numbers.{number_of}
+use Rattle.answer.specs.declared.Refusal.{Refusal}
+use Rattle.answer.specs.Numbers.{answer_number}
 use Rattle.geometry.specs.declared.Span.{Span}
-use Rattle.geometry.specs.declared.Placed.{Placed}
 use Rattle.geometry.specs.Blocks.{band_spans, overlapping, closed_at, touches_of, BlockIn, SharedBlock}
 
 -- a fresh band's span: it covers nothing
@@ -17,7 +17,7 @@ past_end capacity start count = ltb capacity start || ltb (capacity - start) cou
 
 -- the refusals of a transfer whose direction is in range, with the bands that are closed in it: 6 "past end", and 9 "locked: a transfer
 -- touches a locked block"
-abbrev pub transfer_refusals : ℕ → ℕ → List Span → List Bool → ℕ → ℕ → List Refusal
+abbrev pub transfer_refusals : ℕ → ℕ → List Span → List Bool → ℕ → ℕ → List TableRow
 transfer_refusals capacity bands spans closed start count =
     when 6 (past_end capacity start count) ∷ when 9 (touches_of bands spans closed start count) ∷ []
 
@@ -30,7 +30,7 @@ placed spans band start length = set spans band (record { start = start; length 
 
 -- the refusals of a geometry: 1 "no row", 5 "global: geometry for band 0", 6 "past end", and 7 "overlap: two non-empty bands would share a
 -- block", judged with the band in its new place
-abbrev pub place_refusals : ℕ → ℕ → List Span → ℕ → ℕ → ℕ → List Refusal
+abbrev pub place_refusals : ℕ → ℕ → List Span → ℕ → ℕ → ℕ → List TableRow
 place_refusals capacity bands spans band start length =
     when 1 (not (is_row bands band))
     ∷ when 5 (eqb band 0)
@@ -46,9 +46,10 @@ unfoldable pub place_of : ℕ → ℕ → List Span → ℕ → ℕ → ℕ → 
 place_of capacity bands spans band start length =
     cond (eqb (place_answer capacity bands spans band start length) 0) (placed spans band start length) spans
 
-pub record Places (capacity bands : ℕ) (spans : List Span) (band start length : ℕ) (r : Placed) : Type 0 where
-  pub answer : number_of r.answer ≡ place_answer capacity bands spans band start length
-  pub after : r.spans ≡ place_of capacity bands spans band start length
+-- what a geometry hands back, and the spans after it
+pub record Places (capacity bands : ℕ) (spans : List Span) (band start length : ℕ) (r : Result (Unit {0}) Refusal) (spans' : List Span) : Type 0 where
+  pub answer : answer_number r ≡ place_answer capacity bands spans band start length
+  pub after : spans' ≡ place_of capacity bands spans band start length
 
 -- a band within the capacity
 pub record Within (capacity : ℕ) (s : Span) : Type 0 where

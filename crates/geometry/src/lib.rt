@@ -1,44 +1,32 @@
-// Where the bands lie, and which blocks a transfer touches (document 01, 'Geometry and transfers'). Nothing here goes from block to block.
+//! Where the bands lie, and which blocks a transfer touches. Nothing here goes from block to block.
 #![tactic(auto)]
 
-ghost use Rattle.std.specs.Prelude.{◌≡◌, true, false, ◌&&◌, ◌||◌, ◌↔◌, ◌+◌, ◌<◌, min, take, drop};
-ghost use mathlib.Core.List.{foldl};
-ghost use Rattle.answer.specs.Numbers.{number_of};
-ghost use Rattle.geometry.specs.Blocks.{covers, meets_of, meets_any, overlapping, band_spans, touches_of};
+ghost use Rattle.std.specs.Prelude.{◌≡◌, ℕ, true, false, ◌↔◌, ◌+◌, ◌<◌, length};
+ghost use Rattle.std.specs.List.{list_any};
+ghost use Rattle.answer.specs.Numbers.{answer_number};
+ghost use Rattle.geometry.specs.Blocks.{covers, any_block, meets_of, meets_any, overlapping, band_spans};
 ghost use Rattle.geometry.specs.Events.{no_span, past_end, transfer_answer, Places, LockedTransfer, OverlapRefused};
-ghost use Rattle.geometry.specs.Parts.{Alike, OneBand, Barred};
+ghost use Rattle.geometry.specs.Parts.{Alike, OneBand, closed_in, bars_at};
 
-use answer::Answer;
+use answer::Refusal;
 
-// The blocks of a band: `length` of them from `start` on.
-#[derive(Clone, Copy)]
+/// Blocks of the drive: `length` of them from the block `start` on.
+#[derive(Clone, Copy, Debug, PartialEq, Eq)]
 pub struct Span {
     pub start: u64,
     pub length: u64,
 }
 
-// A geometry's answer, and the spans after it.
-#[derive(Clone, Copy)]
-pub struct Placed {
-    pub answer: Answer,
-    pub spans: [Span; 16],
-}
-
-// Blocks that lie in one band, from a block on.
+/// Blocks that lie in one band, from a block on.
 #[derive(Clone, Copy)]
 struct Run {
     band: usize,
     count: u64,
 }
 
-fn least(a: u64, b: u64) -> u64
-    ensures { result ≡ min a b }
-{
-    if a < b { a } else { b }
-}
-
 impl Span {
-    // No blocks.
+    /// No blocks.
+    #[tactic(auto, unfolding(crate::specs::Events::no_span))]
     pub fn none() -> Span
         ensures { result ≡ no_span }
     {
@@ -51,76 +39,82 @@ impl Span {
     fn covers(self, block: u64) -> bool
         ensures { result ≡ Rattle.geometry.specs.Blocks.covers self block }
     {
-        if block < self.start {
-            return false;
-        }
-        block - self.start < self.length
+        self.start <= block && block - self.start < self.length
     }
 
-    // Of the next n blocks those that the span treats like the first: all covered, or none.
+    /// Of the next `n` blocks those that the span treats like the first: all covered, or none.
     fn alike(self, block: u64, n: u64) -> u64
         requires { 0 < n }
         ensures { Alike self block n result }
     {
         if block < self.start {
-            return least(n, self.start - block);
+            return n.min(self.start - block);
         }
         let past = block - self.start;
         if past < self.length {
-            return least(n, self.length - past);
+            return n.min(self.length - past);
         }
         n
     }
 
-    // Whether two spans share a block.
+    /// Whether two spans share a block.
+    #[tactic(auto, using(crate::proofs::Covering::meeting))]
     fn meets(self, other: Span) -> bool
         ensures { result ≡ meets_of self other }
     {
         if self.start < other.start {
-            if other.length == 0 {
-                return false;
-            }
-            return other.start - self.start < self.length;
+            return 0 < other.length && other.start - self.start < self.length;
         }
-        if self.length == 0 {
-            return false;
-        }
-        self.start - other.start < other.length
+        0 < self.length && self.start - other.start < other.length
+    }
+
+    /// Whether the blocks go past the end of the drive.
+    fn is_past_end(self, capacity: u64) -> bool
+        ensures { result ≡ past_end capacity self.start self.length }
+    {
+        capacity < self.start || capacity - self.start < self.length
     }
 }
 
-// The band of a block, and how many of the next blocks lie in the same one.
-fn run_of(spans: [Span; 16], bands: usize, block: u64, limit: u64) -> Run
+/// The spans of the bands 1, 2, .. below the count.
+#[tactic(auto, using(crate::proofs::Scans::local_spans))]
+fn local(spans: &[Span; 16], bands: usize) -> &[Span]
+    ensures { result.now ≡ band_spans bands spans.now }
+{
+    if bands <= 1 {
+        return &[];
+    }
+    &spans[1..bands.min(16)]
+}
+
+/// The band of a block, and how many of the next blocks lie in the same one.
+fn run_of(spans: &[Span], block: u64, limit: u64) -> Run
     requires { 0 < limit }
-    ensures { OneBand bands spans block limit result }
+    ensures { OneBand spans.now block limit result }
 {
-    let mut n = limit;
-    let mut i = 1;
-    while i < 16 {
-        if bands <= i {
-            return Run { band: 0, count: n };
+    let mut count = limit;
+    for (i, span) in spans.iter().enumerate() {
+        count = span.alike(block, count);
+        if span.covers(block) {
+            return Run { band: i + 1, count };
         }
-        let s = spans[i];
-        n = s.alike(block, n);
-        if s.covers(block) {
-            return Run { band: i, count: n };
-        }
-        i += 1;
     }
-    Run { band: 0, count: n }
+    Run { band: 0, count }
 }
 
-// Whether some block of a range lies in a closed band: from run to run.
-fn sweep(spans: [Span; 16], bands: usize, closed: [bool; 16], start: u64, count: u64) -> bool
-    requires { start + count < 18446744073709551616 }
-    ensures { result ≡ touches_of bands spans closed start count }
+/// Whether some block of a range lies in a closed band: from run to run.
+#[tactic(auto, using(crate::proofs::Sweeps::sweeping))]
+fn sweep(spans: &[Span], closed: &[bool; 16], range: Span) -> bool
+    requires few { length spans.now < 16 }
+    requires word { range.start + range.length < 18446744073709551616 }
+    ensures { result ≡ any_block (closed_in spans.now closed.now) range.start range.length }
 {
-    let mut block = start;
-    let mut left = count;
+    let mut block = range.start;
+    let mut left = range.length;
+    // stays: (4) a loop to a condition: it goes by runs and counts nothing of a list
     while 0 < left {
-        let run = run_of(spans, bands, block, left);
-        let band = run.band;
-        if closed[band] {
+        let run = run_of(spans, block, left);
+        if closed[run.band] {
             return true;
         }
         block += run.count;
@@ -129,214 +123,134 @@ fn sweep(spans: [Span; 16], bands: usize, closed: [bool; 16], start: u64, count:
     false
 }
 
-fn bars(closed: bool, range: Span, s: Span) -> bool
-    ensures { result ≡ (closed && meets_of range s) }
+/// False only where no closed band other than 0 has a block of the range: `sweep` decides the rest.
+fn barred(spans: &[Span], closed: &[bool; 16], range: Span) -> bool
+    requires { length spans.now < 16 }
+    ensures { result ≡ false → (i : ℕ) → i < length spans.now → bars_at spans.now closed.now range i ≡ false }
 {
-    if closed {
-        return range.meets(s);
-    }
-    false
-}
-
-// Whether a closed band other than 0 has a block of the range.
-fn barred(spans: [Span; 16], bands: usize, closed: [bool; 16], range: Span) -> bool
-    ensures { Barred bands spans closed range result }
-{
-    let mut i = 1;
-    while i < 16 {
-        if bands <= i {
-            return false;
-        }
-        let s = spans[i];
-        if bars(closed[i], range, s) {
+    for (i, span) in spans.iter().enumerate() {
+        if closed[i + 1] && range.meets(*span) {
             return true;
         }
-        i += 1;
     }
     false
 }
 
-// Whether some band is closed. With no early return the loop is one comparison of sixteen bytes.
-fn some_closed(closed: [bool; 16]) -> bool
-    ensures { result ≡ foldl ◌||◌ false closed }
+/// The same as `sweep`, and most often with no sweep: no band is closed, or the closed bands lie elsewhere.
+fn touches(spans: &[Span], closed: &[bool; 16], range: Span) -> bool
+    requires few { length spans.now < 16 }
+    requires word { range.start + range.length < 18446744073709551616 }
+    ensures { result ≡ any_block (closed_in spans.now closed.now) range.start range.length }
 {
-    let mut some = false;
-    for i in 0..16 {
-        some = base::or(some, closed[i]);
-    }
-    some
-}
-
-// The same as `sweep`, and most often with no sweep: the closed bands lie elsewhere.
-fn touches(spans: [Span; 16], bands: usize, closed: [bool; 16], start: u64, count: u64) -> bool
-    requires { start + count < 18446744073709551616 }
-    ensures { result ≡ touches_of bands spans closed start count }
-{
-    if !some_closed(closed) {
+    if !closed.contains(&true) {
         return false;
     }
-    let near = barred(
-        spans,
-        bands,
-        closed,
-        Span {
-            start,
-            length: count,
-        },
-    );
-    if base::or(near, closed[0]) {
-        return sweep(spans, bands, closed, start, count);
+    if closed[0] || barred(spans, closed, range) {
+        return sweep(spans, closed, range);
     }
     false
 }
 
-// Whether a range of blocks goes past the end of the drive.
-fn past_end(capacity: u64, start: u64, count: u64) -> bool
-    ensures { result ≡ past_end capacity start count }
-{
-    if capacity < start {
-        return true;
-    }
-    capacity - start < count
-}
-
-// A transfer of `count` blocks: 6 past the end, 9 where one of them lies in a closed band, else done.
+/// A transfer of a range of blocks: 6 past the drive's end, 9 where one of them lies in a closed band, else done.
+#[tactic(auto, using(crate::proofs::Refusals::transfers))]
 pub fn transfer(
     capacity: u64,
     bands: usize,
-    spans: [Span; 16],
-    closed: [bool; 16],
-    start: u64,
-    count: u64,
-) -> Answer
-    ensures result_value { number_of result ≡ transfer_answer capacity bands spans closed start count }
-    ensures locked { (number_of result ≡ 9) ↔ LockedTransfer capacity bands spans closed start count }
+    spans: &[Span; 16],
+    closed: &[bool; 16],
+    range: Span,
+) -> Result<(), Refusal>
+    ensures result_value { answer_number result ≡ transfer_answer capacity bands spans.now closed.now range.start range.length }
+    ensures locked { (answer_number result ≡ 9) ↔ LockedTransfer capacity bands spans.now closed.now range.start range.length }
 {
-    if past_end(capacity, start, count) {
-        return Answer::PastEnd;
+    if range.is_past_end(capacity) {
+        return Err(Refusal::PastEnd);
     }
-    if touches(spans, bands, closed, start, count) {
-        return Answer::Locked;
+    if touches(local(spans, bands), closed, range) {
+        return Err(Refusal::Locked);
     }
-    Answer::Done
+    Ok(())
 }
 
-// Whether a span shares a block with a band from the i-th on.
-fn meets_from(spans: [Span; 16], bands: usize, s: Span, first: usize) -> bool
-    ensures { result ≡ meets_any s (drop first (take bands spans)) }
+/// Whether a span shares a block with one of a list.
+fn meets_some(span: Span, others: &[Span]) -> bool
+    ensures { result ≡ list_any (λ other. meets_of span other) others.now }
 {
-    let mut i = first;
-    while i < 16 {
-        if bands <= i {
-            return false;
-        }
-        let t = spans[i];
-        if s.meets(t) {
+    others.iter().any(|other| span.meets(*other))
+}
+
+/// Whether two spans of a list share a block: each span against those after it.
+#[tactic(auto, using(crate::proofs::Sharing::some_met))]
+fn some_meet(spans: &[Span]) -> bool
+    ensures { result ≡ overlapping spans.now }
+{
+    let mut rest = spans;
+    while let Some((span, after)) = rest.split_first() {
+        if meets_some(*span, after) {
             return true;
         }
-        i += 1;
+        rest = after;
     }
     false
 }
 
-// Whether two bands share a block: each band against those after it.
-fn some_meet(spans: [Span; 16], bands: usize) -> bool
-    ensures { result ≡ overlapping (band_spans bands spans) }
+/// Whether each span lies before all spans after it, as the bands most often do: then no two share a block. From the last span on down;
+/// `low` is where the spans so far start.
+#[tactic(auto, using(crate::proofs::Ordered::rises))]
+fn rising(spans: &[Span]) -> bool
+    ensures { result ≡ true → overlapping spans.now ≡ false }
 {
-    let mut i = 1;
-    while i < 16 {
-        if bands <= i {
-            return false;
-        }
-        let s = spans[i];
-        if meets_from(spans, bands, s, i + 1) {
-            return true;
-        }
-        i += 1;
-    }
-    false
-}
-
-// How many bands the array has of those that are counted.
-fn counted(bands: usize) -> usize
-    ensures { result ≡ min bands 16 }
-{
-    if bands < 16 { bands } else { 16 }
-}
-
-// Whether each band lies before all bands after it, as bands most often do: then no two share a block. From the last band on down; `low` is
-// where the bands so far start.
-fn rising(spans: [Span; 16], bands: usize) -> bool
-    ensures { result ≡ true → overlapping (band_spans bands spans) ≡ false }
-{
-    let mut low: u64 = 18_446_744_073_709_551_615;
-    let mut i = counted(bands);
-    while 1 < i {
-        i -= 1;
-        let s = spans[i];
-        if 0 < s.length {
-            if low <= s.start {
+    let mut low = u64::MAX;
+    let mut rest = spans;
+    while let Some((span, before)) = rest.split_last() {
+        if 0 < span.length {
+            if low <= span.start || low - span.start < span.length {
                 return false;
             }
-            if low - s.start < s.length {
-                return false;
-            }
-            low = s.start;
+            low = span.start;
         }
+        rest = before;
     }
     true
 }
 
-// Whether two bands share a block, most often with no pair of them looked at.
-fn overlap(spans: [Span; 16], bands: usize) -> bool
-    ensures { result ≡ overlapping (band_spans bands spans) }
+/// Whether two spans of a list share a block, most often with no pair of them looked at.
+fn overlap(spans: &[Span]) -> bool
+    ensures { result ≡ overlapping spans.now }
 {
-    if rising(spans, bands) {
-        return false;
-    }
-    some_meet(spans, bands)
+    !rising(spans) && some_meet(spans)
 }
 
-// A refusal: the spans as they were.
-fn refusal(answer: Answer, spans: [Span; 16]) -> Placed
-    ensures { result ≡ record { answer = answer; spans = spans } }
-{
-    Placed { answer, spans }
-}
-
-// A geometry: the spans with the band's own in its new place, or the refusal and the spans as they were.
+/// A geometry: the band's span in its new place `to`; or a refusal, and the spans as they were: 1 no such band, 5 band 0, 6 past the drive's end,
+/// 7 where two bands would share a block.
 pub fn place(
     capacity: u64,
     bands: usize,
-    spans: [Span; 16],
+    spans: &mut [Span; 16],
     band: u64,
-    start: u64,
-    length: u64,
-) -> Placed
-    ensures places { Places capacity bands spans band start length result }
-    ensures overlap { (number_of result.answer ≡ 7) ↔ OverlapRefused capacity bands spans band start length }
+    to: Span,
+) -> Result<(), Refusal>
+    ensures places { Places capacity bands spans.old band to.start to.length result spans.new }
+    ensures overlap { (answer_number result ≡ 7) ↔ OverlapRefused capacity bands spans.old band to.start to.length }
 {
     if 16 <= band {
-        return refusal(Answer::NoRow, spans);
+        return Err(Refusal::NoRow);
     }
     let at = band as usize;
     if bands <= at {
-        return refusal(Answer::NoRow, spans);
+        return Err(Refusal::NoRow);
     }
     if at == 0 {
-        return refusal(Answer::Global, spans);
+        return Err(Refusal::Global);
     }
-    if past_end(capacity, start, length) {
-        return refusal(Answer::PastEnd, spans);
+    if to.is_past_end(capacity) {
+        return Err(Refusal::PastEnd);
     }
-    let old = spans;
-    let mut next = old;
-    next[at] = Span { start, length };
-    if overlap(next, bands) {
-        return refusal(Answer::Overlap, old);
+    let former = spans[at];
+    spans[at] = to;
+    if overlap(local(spans, bands)) {
+        spans[at] = former;
+        return Err(Refusal::Overlap);
     }
-    Placed {
-        answer: Answer::Done,
-        spans: next,
-    }
+    Ok(())
 }

@@ -1,6 +1,3 @@
-pub mod Parts
-pub mod Sixteen
-pub mod Storing
-pub mod Changing
 pub mod Finishing
+pub mod Storing
 pub mod Running

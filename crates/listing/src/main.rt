@@ -2,5 +2,5 @@
 #![tactic(auto)]
 
 fn main(rt: HostRuntime) {
-    program::run(&rt);
+    let _ = program::run(&rt);
 }

@@ -7,6 +7,6 @@ use std::io;
 
 fn main(rt: HostRuntime) -> io::Result<()> {
     let mut closed = File::options().write(true).open(&rt, "/dev/null")?;
-    program::run_on(&rt, &mut closed);
+    let _ = program::run_on(&rt, &mut closed);
     Ok(())
 }

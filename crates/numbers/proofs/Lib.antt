@@ -1,5 +1,4 @@
 pub mod Places
 pub mod Enough
 pub mod Only
-pub mod Onward
 pub mod Shortest

@@ -1,6 +1,6 @@
 -- The clauses of `groups_from` at a place of the bytes, as the code meets them.
-use mathlib.Core.Path.{◌≡◌, refl, ap, ◌∙◌}
-use Prim.Native.Nat.{ℕ, zero, suc, ◌+◌, ◌-◌, ◌*◌, ◌%◌, ◌≤◌, ◌<◌}
+use mathlib.Core.Path.{◌≡◌, refl, subst}
+use Prim.Native.Nat.{ℕ, zero, suc, ◌+◌, ◌-◌, ◌≤◌, ◌<◌}
 use native.Mathlib.Numerals.{add-one}
 use native.Mathlib.Omega.{arith}
 use mathlib.Core.List.{List}
@@ -8,10 +8,8 @@ use mathlib.Core.Bool.{cond}
 use lib.Dec.{ltb}
 use lib.ListN.{length, get_or, drop, drop_of_length-le}
 use lib.Seq.{drop-cons}
-use borrow.Author.Tests.{lt-ltb, le-ltb, eq-eqb, ne_eqb}
-use Rattle.numbers.specs.declared.Number.{Number}
-use Rattle.numbers.specs.declared.Number.TheVariants.{Is, Bad}
-use Rattle.numbers.specs.Groups.{found, none, done, bad_script, found_in, prefixed, number_from, too_great}
+use borrow.Author.Tests.{lt-ltb, le-ltb}
+use Rattle.numbers.specs.Groups.{Found, found, none, done, bad_script, prefixed, number_from}
 use Rattle.numbers.specs.Parts.{groups_from}
 
 pub none_left : (left at : ℕ) (s : List ℕ) → left ≡ 0 → none bad_script ≡ groups_from left at s
@@ -40,13 +38,12 @@ pub alone : (at : ℕ) (s : List ℕ) (b : ℕ) → at < length s → b ≡ get_
 unfolding number_from
 alone at s b h e l = rw (drop-cons s at 0, ← e, lt-ltb b 128 l)
 
-pub further : (left at : ℕ) (s : List ℕ) (b : ℕ) (rest r : Number) → (left ≡ 0 → ⊥) → at < length s → b ≡ get_or s at 0 → 128 ≤ b
-    → found_in rest ≡ groups_from (left - 1) (at + 1) (drop (at + 1) s) → found_in r ≡ prefixed b (found_in rest)
-    → found_in r ≡ groups_from left at (drop at s)
-further zero at s b rest r n h e l p w = absurd (n refl)
-further (suc k) at s b rest r n h e l p w =
+further : (left at : ℕ) (s : List ℕ) (b : ℕ) (f : Found) → (left ≡ 0 → ⊥) → at < length s → b ≡ get_or s at 0 → 128 ≤ b
+    → f ≡ groups_from (left - 1) (at + 1) (drop (at + 1) s) → prefixed b f ≡ groups_from left at (drop at s)
+further zero at s b f n h e l p = absurd (n refl)
+further (suc k) at s b f n h e l p =
     let q : suc k - 1 ≡ k = omega arith in
-    w ∙ rw (at_byte k at s h, ← e, le-ltb b 128 l, p, q)
+    rw (at_byte k at s h, ← e, le-ltb b 128 l, p, q)
 
 -- the second of two groups that one call reads
 not_last : (left : ℕ) → (left ≡ 0 → ⊥) → (left ≡ 1 → ⊥) → left - 1 ≡ 0 → ⊥
@@ -56,36 +53,23 @@ not_last (suc (suc k)) n n' e = absurd (omega (arith, e))
 
 module _ (left at : ℕ) (s : List ℕ) (b : ℕ) (n : left ≡ 0 → ⊥) (h : at < length s) (e : b ≡ get_or s at 0) (l : 128 ≤ b) where
   pub one_left : left ≡ 1 → none bad_script ≡ groups_from left at (drop at s)
-  one_left q = further left at s b Bad Bad n h e l (none_left (left - 1) (at + 1) (drop (at + 1) s) (omega (arith, q))) refl
+  one_left q = further left at s b (none bad_script) n h e l (none_left (left - 1) (at + 1) (drop (at + 1) s) (omega (arith, q)))
 
   pub one_byte : length s ≤ at + 1 → none bad_script ≡ groups_from left at (drop at s)
-  one_byte q = further left at s b Bad Bad n h e l (no_byte (left - 1) (at + 1) s q) refl
+  one_byte q = further left at s b (none bad_script) n h e l (no_byte (left - 1) (at + 1) s q)
 
   module _ (m : left ≡ 1 → ⊥) (b' : ℕ) (h' : at + 1 < length s) (e' : b' ≡ get_or s (at + 1) 0) where
-    pub second-last : (rest r : Number) → b' < 128 → rest ≡ Is b' (at + 2) → found_in r ≡ prefixed b (found_in rest)
-        → found_in r ≡ groups_from left at (drop at s)
-    second-last rest r l' q w =
-        let z : at + 2 ≡ at + 1 + 1 = omega arith in
-        further left at s b rest r n h e l (ap found_in q ∙ ap (λ (k : ℕ). found done b' k) z ∙ last (left - 1) (at + 1) s b' (not_last left n m) h' e' l') w
+    pub second-last : b' < 128 → prefixed b (found done b' (at + 2)) ≡ groups_from left at (drop at s)
+    second-last l' =
+        let z : at + 1 + 1 ≡ at + 2 = omega arith in
+        further left at s b (found done b' (at + 2)) n h e l
+        (subst (λ (x : ℕ). found done b' x ≡ groups_from (left - 1) (at + 1) (drop (at + 1) s)) z (last (left - 1) (at + 1) s b' (not_last left n m) h' e' l'))
 
-    pub second-further : (rest more r : Number) → 128 ≤ b' → found_in rest ≡ groups_from (left - 2) (at + 2) (drop (at + 2) s)
-        → found_in more ≡ prefixed b' (found_in rest) → found_in r ≡ prefixed b (found_in more) → found_in r ≡ groups_from left at (drop at s)
-    second-further rest more r l' p w' w =
-        let z : at + 2 ≡ at + 1 + 1 = omega arith in
-        let y : left - 2 ≡ left - 1 - 1 = omega arith in
-        let p' : found_in rest ≡ groups_from (left - 1 - 1) (at + 1 + 1) (drop (at + 1 + 1) s) = p ∙ ap (λ (k : ℕ). groups_from (left - 2) k (drop k s)) z ∙ ap (λ (k : ℕ). groups_from k (at + 1 + 1) (drop (at + 1 + 1) s)) y in
-        further left at s b more r n h e l (further (left - 1) (at + 1) s b' rest more (not_last left n m) h' e' l' p' w') w
+    pub second-further : (f : Found) → 128 ≤ b' → f ≡ groups_from (left - 2) (at + 2) (drop (at + 2) s)
+        → prefixed b (prefixed b' f) ≡ groups_from left at (drop at s)
+    second-further f l' p =
+        let y : left - 1 - 1 ≡ left - 2 = omega arith in
+        let z : at + 1 + 1 ≡ at + 2 = omega arith in
+        further left at s b (prefixed b' f) n h e l (further (left - 1) (at + 1) s b' f (not_last left n m) h' e' l' (rw (y, z) p))
 
--- a group in front of what the rest reads to
-module _ (group v next : ℕ) (rest : Number) (e : rest ≡ Is v next) where
-  pub joined-zero : v ≡ 0 → none bad_script ≡ prefixed group (found_in rest)
-  joined-zero z = rw (e, eq-eqb v 0 z)
-
-  pub joined-fits : (v ≡ 0 → ⊥) → v < 144115188075855872 → found done (group % 128 + 128 * v) next ≡ prefixed group (found_in rest)
-  joined-fits n h = rw (e, ne_eqb v 0 n, lt-ltb (group % 128 + 128 * v) too_great (omega (arith, h)))
-
-  pub joined-large : (v ≡ 0 → ⊥) → 144115188075855872 ≤ v → none bad_script ≡ prefixed group (found_in rest)
-  joined-large n h = rw (e, ne_eqb v 0 n, le-ltb (group % 128 + 128 * v) too_great (omega (arith, h)))
-
-pub joined-bad : (group : ℕ) (rest : Number) → rest ≡ Bad → none bad_script ≡ prefixed group (found_in rest)
-joined-bad group rest e = rw e
+pub ruleset steps = (none_left, no_byte, last, one_left, one_byte, second-last, second-further)

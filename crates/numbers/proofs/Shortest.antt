@@ -91,3 +91,5 @@ pub writes-back : (v : ℕ) (r : ShortForm) → Fits w64 v → Writes v r → Re
 writes-back v r h w =
     let q : number_from 0 (number_bytes v ++ []) ≡ found done v (0 + length (number_bytes v)) = one_form.its-groups 0 v [] (omega (arith, h)) in
     rw (number-first v r w, w.count) (rw (append-nil (number_bytes v), zero-add) at q)
+
+pub ruleset grouping = (group-begin, group-place, group-again)

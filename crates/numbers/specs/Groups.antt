@@ -1,9 +1,7 @@
 -- Document 01, 'Script': "Every number is in groups of seven bits, low group first, top bit set when more follow. Shortest form only, below
 -- 2^64."
-use Rattle.std.specs.Prelude.{◌≡◌, ℕ, zero, suc, ◌+◌, ◌-◌, ◌*◌, ◌/◌, ◌%◌, ◌<◌, cond, List, [], ◌∷◌, ◌++◌, eqb, ltb, length, take, drop, replicate}
+use Rattle.std.specs.Prelude.{◌≡◌, ℕ, zero, suc, ◌+◌, ◌-◌, ◌*◌, ◌/◌, ◌%◌, ◌<◌, cond, List, [], ◌∷◌, ◌++◌, eqb, ltb, length, take, drop, replicate, Option, Some, None}
 use Rattle.base.specs.Lists.{Bytes}
-use Rattle.numbers.specs.declared.Number.{Number}
-use Rattle.numbers.specs.declared.Number.TheVariants.{Is, Bad}
 use Rattle.numbers.specs.declared.ShortForm.{ShortForm}
 
 -- The answers of every reading, by the table: "0 done", and "10 bad script: the script cannot be read".
@@ -19,10 +17,10 @@ pub data Found : Type 0 where
   found : (answer value next : ℕ) → Found
   none : (answer : ℕ) → Found
 
--- the code's cases by the paper's numbers
-abbrev pub found_in : Number → Found
-found_in (Is value next) = found 0 value next
-found_in Bad = none 10
+-- the code's cases by the paper's numbers: a value with the place after it, or none
+abbrev pub found_in : Option (ℕ × ℕ) → Found
+found_in (Some n) = found 0 n.0 n.1
+found_in None = none 10
 
 -- "below 2^64"
 abbrev pub too_great : ℕ

@@ -1,47 +1,35 @@
 -- What the functions come to, and what their promises say to those who call them.
 use mathlib.Core.Path.{◌≡◌, refl, sym, ap, ◌∙◌}
-use Prim.Native.Nat.{ℕ, ◌+◌, ◌-◌, ◌<◌, ◌≤◌}
+use Prim.Native.Nat.{ℕ, ◌+◌, ◌<◌, ◌≤◌}
 use native.Mathlib.Omega.{arith}
 use mathlib.Core.Bool.{Bool, true, false, cond}
 use mathlib.Core.List.{List, ◌++◌}
 use lib.Dec.{ltb}
 use lib.ListN.{length, take, drop}
 use lib.Seq.{take-append_seam}
-use borrow.Author.Tests.{lt-ltb, le-ltb, le-leb, lt-leb}
+use borrow.Author.Tests.{lt-ltb, le-ltb, le-leb}
 use Rattle.base.specs.Spliced.{spliced, over}
-use Rattle.base.proofs.Cases.{cond-true, cond-false}
+use Rattle.base.proofs.Cases.{cond-true}
 use Rattle.base.proofs.Spliced.{splice-twice}
 use Rattle.output.specs.Filling.{output_after, written_after, told, told_by, fill_answer, filled_by, spliced_within}
 
--- bytes put where they fit
+-- items put where they fit
 
-module _ (out : List ℕ) (at : ℕ) (bytes : List ℕ) where
-  within : at + length bytes ≤ length out → spliced out at bytes ≡ spliced_within out at bytes
-  within h = cond-true _ _ out _ (le-leb (at + length bytes) (length out) h) refl
+module _ {A : Type 0} where
+  module _ (out : List A) (at : ℕ) (items : List A) where
+    within : at + length items ≤ length out → spliced out at items ≡ spliced_within out at items
+    within h = cond-true _ _ out _ (le-leb (at + length items) (length out) h) refl
 
-  without : length out < at + length bytes → out ≡ spliced_within out at bytes
-  without h = cond-false _ (spliced out at bytes) _ _ (lt-leb (at + length bytes) (length out) h) refl
+    pub put-fits : (after : List A) → at + length items ≤ length out → after ≡ spliced_within out at items → after ≡ spliced out at items
+    put-fits after h e = e ∙ sym (within h)
 
-  pub put-short : length out < length bytes → out ≡ spliced_within out at bytes
-  put-short h = without (omega arith)
-
-  module _ (room : length bytes ≤ length out) where
-    pub put-past : length out - length bytes < at → out ≡ spliced_within out at bytes
-    put-past h = without (omega arith)
-
-    pub put-done : (after : List ℕ) → at ≤ length out - length bytes → after ≡ spliced out at bytes → after ≡ spliced_within out at bytes
-    put-done after h e = e ∙ within (omega arith)
-
-  pub put-fits : (after : List ℕ) → at + length bytes ≤ length out → after ≡ spliced_within out at bytes → after ≡ spliced out at bytes
-  put-fits after h e = e ∙ sym (within h)
-
--- bytes put one after the other, where there is room for all
-pub put-twice : (out : List ℕ) (at : ℕ) (x y next last : List ℕ) → at + length x + length y ≤ length out → length next ≡ length out
-    → next ≡ spliced_within out at x → last ≡ spliced_within next (at + length x) y → last ≡ spliced out at (x ++ y)
-put-twice out at x y next last room k e f =
-    let a : next ≡ spliced out at x = put-fits out at x next (omega arith) e in
-    let b : last ≡ spliced next (at + length x) y = put-fits next (at + length x) y last (omega arith) f in
-    rw (b, a) (splice-twice out at x y (omega arith))
+  -- items put one after the other, where there is room for all
+  pub put-twice : (out : List A) (at : ℕ) (x y next last : List A) → at + length x + length y ≤ length out → length next ≡ length out
+      → next ≡ spliced_within out at x → last ≡ spliced_within next (at + length x) y → last ≡ spliced out at (x ++ y)
+  put-twice out at x y next last room k e f =
+      let a : next ≡ spliced out at x = put-fits out at x next (omega arith) e in
+      let b : last ≡ spliced next (at + length x) y = put-fits next (at + length x) y last (omega arith) f in
+      rw (b, a) (splice-twice out at x y (omega arith))
 
 -- an output filled, or too short
 

@@ -1,9 +1,7 @@
 -- Document 01, 'Sensors', the paragraph on phases: what each cause does in each phase. Every rule goes by its cause.
-use Rattle.std.specs.Prelude.{ℕ, Bool, true, false, cond}
+use Rattle.std.specs.Prelude.{ℕ, Bool, true, false, cond, Option, Some, None}
 use Rattle.phases.specs.declared.Phase.{Phase}
 use Rattle.phases.specs.declared.Phase.TheVariants.{SS0, ST0, SS1, ST1, SS2}
-use Rattle.phases.specs.declared.Move.{Move}
-use Rattle.phases.specs.declared.Move.TheVariants.{Stays, Enters}
 use Rattle.phases.specs.declared.Cause.{Cause}
 use Rattle.phases.specs.declared.Cause.TheVariants.{
   TrueAtOnce,
@@ -51,12 +49,12 @@ abbrev pub turned_false : Bool → Phase
 turned_false at_once = cond at_once SS2 ST1
 
 -- ".. an enabled sensor's level ..": a turn moves an enabled sensor, whatever its phase ("This also holds while waiting."), and no other.
-abbrev pub when_enabled : Phase → Phase → Move
-when_enabled before after = cond (is_enabled before) (Enters after) Stays
+abbrev pub when_enabled : Phase → Phase → Option Phase
+when_enabled before after = cond (is_enabled before) (Some after) None
 
 -- "Enabling an enabled sensor does nothing."
-abbrev pub when_disabled : Phase → Phase → Move
-when_disabled before after = cond (is_enabled before) Stays (Enters after)
+abbrev pub when_disabled : Phase → Phase → Option Phase
+when_disabled before after = cond (is_enabled before) None (Some after)
 
 -- "those that reach 0 settle": at the level with which the sensor waits. One that does not wait keeps its phase, and its timer stops.
 abbrev pub settled : Phase → Phase
@@ -70,24 +68,24 @@ settled SS2 = SS2
 abbrev pub power_cycled : Phase → Phase
 power_cycled before = cond (is_enabled before) SS2 SS0
 
--- The move of a phase, by cause. "Enabling with level TRUE acts as turning TRUE; with level FALSE it gives SS2." "Disabling gives SS0".
-unfoldable pub move_of : Phase → Cause → Move
+-- The move of a phase, by cause: the phase that is entered anew, or none where the sensor stays. "Enabling with level TRUE acts as turning TRUE; with level FALSE it gives SS2." "Disabling gives SS0".
+unfoldable pub move_of : Phase → Cause → Option Phase
 move_of p TrueAtOnce = when_enabled p (turned_true true)
 move_of p TrueWaiting = when_enabled p (turned_true false)
 move_of p FalseAtOnce = when_enabled p (turned_false true)
 move_of p FalseWaiting = when_enabled p (turned_false false)
-move_of p TimerEnds = Enters (settled p)
+move_of p TimerEnds = Some (settled p)
 move_of p EnabledTrueAtOnce = when_disabled p (turned_true true)
 move_of p EnabledTrueWaiting = when_disabled p (turned_true false)
 move_of p EnabledFalse = when_disabled p SS2
-move_of p Disabled = Enters SS0
-move_of p PowerCycle = Enters (power_cycled p)
+move_of p Disabled = Some SS0
+move_of p PowerCycle = Some (power_cycled p)
 
 -- A move by the numbers that phases have in the listing: the number after it, from the number before it. "does nothing": the number stays;
 -- "gives SS1", "else ST0", ..: it is that phase's.
-abbrev pub number_after : Move → ℕ → ℕ
-number_after Stays before = before
-number_after (Enters p) before = phase_number p
+abbrev pub number_after : Option Phase → ℕ → ℕ
+number_after None before = before
+number_after (Some p) before = phase_number p
 
 -- The level after a cause: a turn is a change of the level, and "A power cycle then sets each level FALSE".
 abbrev pub level_after : Cause → Bool → Bool
@@ -101,16 +99,3 @@ level_after EnabledTrueWaiting before = before
 level_after EnabledFalse before = before
 level_after Disabled before = before
 level_after PowerCycle before = false
-
--- The columns of the table that the code keeps.
-abbrev pub column_of : Cause → ℕ
-column_of TrueAtOnce = 0
-column_of TrueWaiting = 1
-column_of FalseAtOnce = 2
-column_of FalseWaiting = 3
-column_of TimerEnds = 4
-column_of EnabledTrueAtOnce = 5
-column_of EnabledTrueWaiting = 6
-column_of EnabledFalse = 7
-column_of Disabled = 8
-column_of PowerCycle = 9

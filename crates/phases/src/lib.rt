@@ -1,183 +1,107 @@
-// The phases of a Security Sensor (document 01, 'Sensors'; 002, 4.3.2), what moves them, and the fixed table of phase against cause.
+//! The phases of a Security Sensor (TCG Storage, Locking: 4.3.2), what moves them, and the fixed table of phase against cause.
 #![tactic(auto)]
 
 ghost use Rattle.std.specs.Prelude.{◌≡◌};
-ghost use Rattle.phases.specs.Phases.{phase_number, column_of, condition_in, move_of, number_after, level_after};
+ghost use Rattle.phases.specs.Phases.{phase_number, condition_in, move_of, number_after, level_after};
 
-// The phases of 002, 4.3.2.
-#[derive(Clone, Copy)]
+use Phase::{SS0, SS1, SS2, ST0, ST1};
+
+/// The phases, with their numbers in the listing.
+#[derive(Clone, Copy, Debug, PartialEq, Eq)]
 pub enum Phase {
-    // off
-    SS0,
-    // waiting with level TRUE
-    ST0,
-    // settled TRUE
-    SS1,
-    // waiting with level FALSE
-    ST1,
-    // settled FALSE
-    SS2,
+    /// off
+    SS0 = 0,
+    /// waiting with level TRUE
+    ST0 = 1,
+    /// settled TRUE
+    SS1 = 2,
+    /// waiting with level FALSE
+    ST1 = 3,
+    /// settled FALSE
+    SS2 = 4,
 }
 
-// What moves a sensor. `AtOnce` is with timeout 0, `Waiting` with another timeout.
-#[derive(Clone, Copy)]
+/// What moves a sensor, in the order of the table's columns. `AtOnce` is with timeout 0, `Waiting` with another timeout.
+#[derive(Clone, Copy, Debug, PartialEq, Eq)]
 pub enum Cause {
-    // the level turns TRUE
+    /// the level turns TRUE, with timeout 0
     TrueAtOnce,
+    /// the level turns TRUE, with another timeout
     TrueWaiting,
-    // the level turns FALSE
+    /// the level turns FALSE, with timeout 0
     FalseAtOnce,
+    /// the level turns FALSE, with another timeout
     FalseWaiting,
-    // the timer reaches 0
+    /// the timer reaches 0
     TimerEnds,
-    // the sensor is enabled, with level TRUE or FALSE
+    /// the sensor is enabled, with level TRUE and timeout 0
     EnabledTrueAtOnce,
+    /// the sensor is enabled, with level TRUE and another timeout
     EnabledTrueWaiting,
+    /// the sensor is enabled, with level FALSE
     EnabledFalse,
-    // the sensor is disabled
+    /// the sensor is disabled
     Disabled,
-    // the drive goes through a power cycle
+    /// the drive goes through a power cycle
     PowerCycle,
 }
 
-// What a cause does to the phase. A phase that is entered anew sets or stops the timer; where the sensor stays, the timer does too.
-#[derive(Clone, Copy)]
-pub enum Move {
-    Stays,
-    Enters(Phase),
-}
-
-// A row of ten causes for each phase.
-const MOVES: [Move; 50] = [
-    // SS0
-    Move::Stays,
-    Move::Stays,
-    Move::Stays,
-    Move::Stays,
-    Move::Enters(Phase::SS0),
-    Move::Enters(Phase::SS1),
-    Move::Enters(Phase::ST0),
-    Move::Enters(Phase::SS2),
-    Move::Enters(Phase::SS0),
-    Move::Enters(Phase::SS0),
-    // ST0
-    Move::Enters(Phase::SS1),
-    Move::Enters(Phase::ST0),
-    Move::Enters(Phase::SS2),
-    Move::Enters(Phase::ST1),
-    Move::Enters(Phase::SS1),
-    Move::Stays,
-    Move::Stays,
-    Move::Stays,
-    Move::Enters(Phase::SS0),
-    Move::Enters(Phase::SS2),
-    // SS1
-    Move::Enters(Phase::SS1),
-    Move::Enters(Phase::ST0),
-    Move::Enters(Phase::SS2),
-    Move::Enters(Phase::ST1),
-    Move::Enters(Phase::SS1),
-    Move::Stays,
-    Move::Stays,
-    Move::Stays,
-    Move::Enters(Phase::SS0),
-    Move::Enters(Phase::SS2),
-    // ST1
-    Move::Enters(Phase::SS1),
-    Move::Enters(Phase::ST0),
-    Move::Enters(Phase::SS2),
-    Move::Enters(Phase::ST1),
-    Move::Enters(Phase::SS2),
-    Move::Stays,
-    Move::Stays,
-    Move::Stays,
-    Move::Enters(Phase::SS0),
-    Move::Enters(Phase::SS2),
-    // SS2
-    Move::Enters(Phase::SS1), // slip two: not SS0
-    Move::Enters(Phase::ST0),
-    Move::Enters(Phase::SS2),
-    Move::Enters(Phase::ST1),
-    Move::Enters(Phase::SS2),
-    Move::Stays,
-    Move::Stays,
-    Move::Stays,
-    Move::Enters(Phase::SS0),
-    Move::Enters(Phase::SS2),
+/// A row for each phase and a column for each cause, in their order: the phase that is entered, or none where the sensor stays.
+#[rattlefmt::skip]
+const MOVES: [[Option<Phase>; 10]; 5] = [
+    // turns TRUE          turns FALSE           timer ends enabled TRUE          FALSE      disabled   power cycle
+    // at once   waiting   at once    waiting               at once    waiting
+    [None,      None,      None,      None,      Some(SS0), Some(SS1), Some(ST0), Some(SS2), Some(SS0), Some(SS0)], // SS0
+    [Some(SS1), Some(ST0), Some(SS2), Some(ST1), Some(SS1), None,      None,      None,      Some(SS0), Some(SS2)], // ST0
+    [Some(SS1), Some(ST0), Some(SS2), Some(ST1), Some(SS1), None,      None,      None,      Some(SS0), Some(SS2)], // SS1
+    [Some(SS1), Some(ST0), Some(SS2), Some(ST1), Some(SS2), None,      None,      None,      Some(SS0), Some(SS2)], // ST1
+    [Some(SS1), Some(ST0), Some(SS2), Some(ST1), Some(SS2), None,      None,      None,      Some(SS0), Some(SS2)], // SS2: TRUE at once enters SS1, where the standard has SS0
 ];
 
 impl Phase {
-    // The phase's number in the listing, and its row in the table.
+    /// The phase's number in the listing, 0 to 4.
     pub fn number(self) -> u8
         ensures { result ≡ phase_number self }
     {
-        match self {
-            Phase::SS0 => 0,
-            Phase::ST0 => 1,
-            Phase::SS1 => 2,
-            Phase::ST1 => 3,
-            Phase::SS2 => 4,
-        }
+        self as u8
     }
 
-    // The condition in this phase, from the former one.
+    /// The condition in this phase, from the former one.
     pub fn condition(self, former: bool) -> bool
         ensures { result ≡ condition_in self former }
     {
         match self {
-            Phase::SS0 => false,
-            Phase::ST0 => former,
+            Phase::SS0 | Phase::SS2 => false,
             Phase::SS1 => true,
-            Phase::ST1 => former,
-            Phase::SS2 => false,
+            Phase::ST0 | Phase::ST1 => former,
         }
     }
 
-    // What the table has for this phase and a cause.
-    pub fn moved(self, cause: Cause) -> Move
+    #[tactic(auto, unfolding(crate::specs::Phases::move_of))]
+    /// The phase that a cause makes this one enter; none where the sensor stays. A phase that is entered anew sets or stops the timer; where
+    /// the sensor stays, the timer does too.
+    pub fn moved(self, cause: Cause) -> Option<Phase>
         ensures value { result ≡ move_of self cause }
         ensures listed { number_after result (phase_number self) ≡ number_after (move_of self cause) (phase_number self) }
     {
-        let row = self.number() as usize;
-        let at = row * 10 + cause.column();
-        MOVES[at]
+        let row = MOVES[self as usize];
+        row[cause as usize]
     }
 }
 
 impl Cause {
-    // The cause's column in the table.
-    fn column(self) -> usize
-        ensures { result ≡ column_of self }
-    {
-        match self {
-            Cause::TrueAtOnce => 0,
-            Cause::TrueWaiting => 1,
-            Cause::FalseAtOnce => 2,
-            Cause::FalseWaiting => 3,
-            Cause::TimerEnds => 4,
-            Cause::EnabledTrueAtOnce => 5,
-            Cause::EnabledTrueWaiting => 6,
-            Cause::EnabledFalse => 7,
-            Cause::Disabled => 8,
-            Cause::PowerCycle => 9,
-        }
-    }
-
-    // The level after the cause, from the level before it.
+    /// The level after the cause, from the level before it.
     pub fn level(self, before: bool) -> bool
         ensures { result ≡ level_after self before }
     {
         match self {
-            Cause::TrueAtOnce => true,
-            Cause::TrueWaiting => true,
-            Cause::FalseAtOnce => false,
-            Cause::FalseWaiting => false,
-            Cause::TimerEnds => before,
-            Cause::EnabledTrueAtOnce => before,
-            Cause::EnabledTrueWaiting => before,
-            Cause::EnabledFalse => before,
-            Cause::Disabled => before,
-            Cause::PowerCycle => false,
+            Cause::TrueAtOnce | Cause::TrueWaiting => true,
+            Cause::FalseAtOnce | Cause::FalseWaiting | Cause::PowerCycle => false,
+            Cause::TimerEnds
+            | Cause::EnabledTrueAtOnce
+            | Cause::EnabledTrueWaiting
+            | Cause::EnabledFalse
+            | Cause::Disabled => before,
         }
     }
 }

@@ -1,11 +1,12 @@
 -- What a program makes of its input.
-use Rattle.std.specs.Prelude.{ℕ, ◌+◌, ◌≤◌, ◌≡◌, Bool, true, false, min, List, [], length, take, Result, Ok, Err}
+use Rattle.std.specs.Prelude.{ℕ, ◌+◌, ◌≤◌, ◌≡◌, Bool, min, List, [], length, take, Result, Ok, Err, IfOk}
 use Rattle.std.specs.Result.{is_err}
 use Rattle.drive.specs.State.{fresh_drive}
 use Rattle.drive.specs.Events.{run_of}
 use Rattle.discovery_answer.specs.Write.{discovery_of}
 use Rattle.script.specs.Whole.{most_script_bytes, Script, accepted, bad, read_script}
 use Rattle.program.specs.declared.Ended.{Ended}
+use Rattle.program.specs.declared.Unread.{Unread}
 
 -- a read that answers an error has failed
 abbrev pub is_failure : {E : Type 0} → Result ℕ E → Bool
@@ -37,12 +38,20 @@ pub record Prints (says : Script → List ℕ) (bytes : List ℕ) (written : ℕ
   pub tells : Tells says bytes text
   pub whole : written ≡ length text
 
+-- so many bytes are the first of a space
+abbrev pub AreFirst : ℕ → List ℕ → Type 0
+AreFirst n space = (n ≤ length space) × (n ≡ length (take n space))
+
+-- how many bytes were read
+abbrev pub read_in : Result Ended Unread → ℕ
+read_in (Ok ended) = ended.read
+read_in (Err unread) = unread.read
+
 -- What a program came to. Which bytes the outside hands over no contract can say; that there are such bytes, as many as were read:
-pub record EndsSo (says : Script → List ℕ) (r : Ended) : Type 0 where
+pub record EndsSo (says : Script → List ℕ) (r : Result Ended Unread) : Type 0 where
   pub input : List ℕ
-  pub read-are : r.read ≡ length input
+  pub read-are : read_in r ≡ length input
   -- one more than a script may have, and no more
   pub few : length input ≤ most_read
-  -- and that their text was printed, "A program reads a script on standard input", or nothing where they could not be read
-  pub printed : r.failed ≡ false → Prints says input r.written
-  pub unread : r.failed ≡ true → r.written ≡ 0
+  -- and that their text was printed, "A program reads a script on standard input", unless they could not be read
+  pub printed : IfOk r (λ ended. Prints says input ended.written)

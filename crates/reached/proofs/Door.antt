@@ -10,7 +10,7 @@ use lib.ListN.{length}
 use borrow.Author.Tests.{ne_eqb, eqb-true, eqb-false}
 use Rattle.base.specs.Columns.{named}
 use Rattle.base.specs.Lists.{any}
-use Rattle.base.specs.Refusals.{Refusal, when, first_of, applying, order_of}
+use Rattle.base.specs.Refusals.{TableRow, when, first_of, applying, order_of}
 use Rattle.base.proofs.Refusals.{own-place}
 use Rattle.base.specs.Rows.{is_row}
 use Rattle.base.proofs.Cases.{and_left, and_right}
@@ -120,7 +120,7 @@ not-both conditions c bytes row h =
 -- ---- the lowest number
 
 -- what applies is the first of the list, or applies in the rest
-either : (n k : ℕ) (a : Bool) (l : List Refusal) → applying n (when k a ∷ l) ≡ true → ((k ≡ n) × (a ≡ true)) ⊎ (applying n l ≡ true)
+either : (n k : ℕ) (a : Bool) (l : List TableRow) → applying n (when k a ∷ l) ≡ true → ((k ≡ n) × (a ≡ true)) ⊎ (applying n l ≡ true)
 unfolding applying any
 either n k a l = go (eqb k n) refl a
   where

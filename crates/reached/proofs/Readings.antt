@@ -13,7 +13,7 @@ use Rattle.base.proofs.Rows.{row_is, modify-same}
 use Rattle.sensor.specs.declared.single.Sensor.{Sensor}
 use Rattle.sensor.specs.Level.{greatest_reading}
 use Rattle.sensor.specs.Single.{fresh_sensor, reading_of, power_cycle_of}
-use Rattle.sensor.specs.Sound.{UpToDate}
+use Rattle.sensor.specs.Sound.{InRange, UpToDate}
 use Rattle.sensor.specs.Judging.{LastRead, NoReading}
 use Rattle.sensor.proofs.Judging.{judging}
 use Rattle.sensor.proofs.Motion.{fresh-power-cycle}
@@ -34,7 +34,7 @@ modify-still f z (x ∷ l) zero e = ap (λ y. y ∷ l) e
 modify-still f z (x ∷ l) (suc i) e = ap (λ m. x ∷ m) (modify-still f z l i e)
 
 read_again : (v : ℕ) (s : Sensor) → UpToDate s → LastRead v s → reading_of v s ≡ s
-read_again v s j l = sym (judging.again v s l (omega (arith, l.value, j.kept.range))) ∙ judging.nothing-waits s j
+read_again v s j l = sym (judging.again v s l (subst InRange l.value j.kept.range)) ∙ judging.nothing-waits s j
 
 nothing-waits : (d : Drive) → Reached d → (i v : ℕ) → LastRead v (sensor_at d i) → step_of d (reading i v) ≡ d
 unfolding act_of

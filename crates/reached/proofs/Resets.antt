@@ -7,6 +7,7 @@ use mathlib.Core.List.{List, [], ◌∷◌, map}
 use lib.Dec.{eqb, leb, ltb}
 use lib.ListN.{length}
 use borrow.Author.Tests.{ne_eqb, le-leb}
+use Rattle.std.specs.Prelude.{Some}
 use Rattle.base.specs.Columns.{named, within}
 use Rattle.base.specs.Refusals.{when, first_of}
 use Rattle.base.specs.Rows.{is_row}
@@ -42,13 +43,13 @@ no-stops d type = cond_both (λ (n : ℕ). n ≡ 0) (eqb (answer_of d (reset typ
 
 -- a reset of each row and then settling, in one look at the row
 fused : (conditions : List Bool) (type : ℕ) (rows : List Row)
-    → map (settle_row conditions) (map (reset_row type) rows) ≡ map (λ row. lock_under (locks_by conditions type row) row) rows
+    → map (settle_row conditions) (map (reset_row type) rows) ≡ map (λ row. lock_under (locks_by conditions (Some type) row) row) rows
 fused conditions type [] = refl
 fused conditions type (row ∷ rows) = ap₂ ◌∷◌ (reset-settle conditions type row) (fused conditions type rows)
 
 -- so it is with every type but the power cycle
 resets : (d : Drive) (type : ℕ) → 1 ≤ type → type ≤ 3
-    → step_of d (reset type) ≡ with_rows (map (λ row. lock_under (locks_by (conditions_of d) type row) row) d.rows) d
+    → step_of d (reset type) ≡ with_rows (map (λ row. lock_under (locks_by (conditions_of d) (Some type) row) row) d.rows) d
 unfolding settle_of act_of conditions_of
 resets d type some h =
     sym (granted-acts d (reset type) 0 (reset-answered d type h) refl).0

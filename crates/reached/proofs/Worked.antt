@@ -11,7 +11,7 @@ use Rattle.sensor.proofs.Worked.{below_both, at_both, at_off, above-off, two-old
 use Rattle.evaluator.specs.declared.Evaluation.TheVariants.{True}
 use Rattle.evaluator.specs.Value.{left, evaluate, value_of}
 use Rattle.evaluator.specs.Formed.{count_from}
-use Rattle.evaluator.proofs.Bits.{absent}
+use Rattle.evaluator.proofs.Mentions.{absent}
 use Rattle.token_reader.specs.Format.{body_of}
 use Rattle.drive.specs.declared.Drive.{Drive}
 use Rattle.drive.specs.Events.{band_set, answer_of, step_of}

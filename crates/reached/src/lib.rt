@@ -1,3 +1,3 @@
-// Theorems about every drive that events reach. There is no code here.
+//! Theorems about every drive that events reach. There is no code here.
 
 #![tactic(auto)]

@@ -1,68 +1,60 @@
-// The reader of a script (document 01, 'Script'): it "keeps the script and its cursor as one thing".
+//! A script, and the place in it that is read next.
 #![tactic(auto)]
 
-ghost use Rattle.std.specs.Prelude.{◌≡◌};
-ghost use Rattle.numbers.specs.Groups.{found_in, number_at};
-ghost use Rattle.event_reader.specs.Fields.{parsed_in, event_at, tokens_at};
+ghost use Rattle.std.specs.Prelude.{◌≡◌, ◌+◌, ◌↔◌, ◌≤◌, length, option_map, IfSome, IfNone, IsTrue};
+ghost use Rattle.numbers.specs.Groups.{number_at};
+ghost use Rattle.reader.specs.Places.{number_in, part_at};
 
-use event_reader::EventRead;
-use numbers::Number;
-
-// A script, and the place in it that is read next.
+/// A script, and the place in it that is read next. What does not read leaves the place as it was.
 #[derive(Clone, Copy)]
 pub struct Reader<'a> {
     pub script: &'a [u8],
     pub at: usize,
 }
 
-// A reader at a place of a script.
-pub fn new<'a>(script: &'a [u8], at: usize) -> Reader<'a>
-    ensures { (result.script ≡ script.entry) × (result.at ≡ at) }
-{
-    Reader { script, at }
-}
-
-// The number at the reader's place.
-pub fn number<'a>(r: Reader<'a>) -> Number
-    ensures { found_in result ≡ number_at r.entry.script.now r.entry.at }
-{
-    numbers::number_at(r.script, r.at)
-}
-
-// The event at the reader's place.
-pub fn event<'a>(r: Reader<'a>) -> EventRead
-    ensures { parsed_in r.entry.script.now result ≡ event_at r.entry.script.now r.entry.at }
-{
-    event_reader::event_at(r.script, r.at)
-}
-
-// So many bytes at the reader's place, as a part of the script itself; no bytes where they would not lie in it.
-pub fn part<'a>(r: Reader<'a>, count: usize) -> &'a [u8]
-    ensures { result.now ≡ tokens_at r.entry.script.now r.entry.at count }
-{
-    event_reader::tokens_at(r.script, r.at, count)
-}
-
-// The reader moved on: the same script, at the place that is read next, as a reading hands it back.
-pub fn moved_to<'a>(r: Reader<'a>, next: usize) -> Reader<'a>
-    ensures { (result.script ≡ r.entry.script) × (result.at ≡ next) }
-{
-    Reader {
-        script: r.script,
-        at: next,
+impl<'a> Reader<'a> {
+    /// A reader at a place of a script.
+    pub fn new(script: &'a [u8], at: usize) -> Reader<'a>
+        ensures { (result.script ≡ script.entry) × (result.at ≡ at) }
+    {
+        Reader { script, at }
     }
-}
 
-// The event at a place of a script: a reader of the script is moved to the place, and reads there.
-pub fn next_event(script: &[u8], at: usize) -> EventRead
-    ensures { parsed_in script.now result ≡ event_at script.now at }
-{
-    event(moved_to(new(script, 0), at))
-}
+    /// The number at the place, which moves on to the end of it; `None` where none stands there, and the place stays.
+    pub fn number(&mut self) -> Option<u64>
+        ensures script { self.new.script ≡ self.old.script }
+        ensures number { number_in result self.new.at ≡ number_at self.old.script.now self.old.at }
+        ensures stays { IfNone result (self.new.at ≡ self.old.at) }
+    {
+        let (value, next) = numbers::number_at(self.script, self.at)?;
+        self.at = next;
+        Some(value)
+    }
 
-// So many bytes at a place of a script, by way of a reader.
-pub fn part_at<'a>(script: &'a [u8], at: usize, count: usize) -> &'a [u8]
-    ensures { result.now ≡ tokens_at script.now at count }
-{
-    part(new(script, at), count)
+    /// So many bytes at the place, as a part of the script itself; the place moves on to the end of them. `None` where they would not
+    /// lie in the script, and the place stays.
+    pub fn part(&mut self, count: usize) -> Option<&'a [u8]>
+        ensures script { self.new.script ≡ self.old.script }
+        ensures bytes { option_map (λ p. p.now) result ≡ part_at self.old.script.now self.old.at count }
+        ensures moves { IfSome result (λ p. self.new.at ≡ self.old.at + count) }
+        ensures stays { IfNone result (self.new.at ≡ self.old.at) }
+    {
+        let script = self.script;
+        let from = self.at;
+        if script.len() < from {
+            return None;
+        }
+        if script.len() - from < count {
+            return None;
+        }
+        self.at = from + count;
+        Some(&script[from..from + count])
+    }
+
+    /// Whether the whole script has been read.
+    pub fn is_at_end(&self) -> bool
+        ensures { IsTrue result ↔ (length self.now.script.now ≤ self.now.at) }
+    {
+        self.script.len() <= self.at
+    }
 }

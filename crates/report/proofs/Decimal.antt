@@ -1,12 +1,14 @@
 -- Laws of the decimal digits of a number.
-use mathlib.Core.Path.{◌≡◌, refl, ap, ◌∙◌}
-use Prim.Native.Nat.{ℕ, zero, suc, ◌+◌, ◌-◌, ◌*◌, ◌/◌, ◌%◌, ◌≤◌, ◌<◌}
+use mathlib.Core.Path.{◌≡◌, refl, sym, ap, ◌∙◌}
+use Prim.Native.Nat.{ℕ, zero, suc, ◌+◌, ◌-◌, ◌*◌, ◌/◌, ◌%◌, ◌^◌, ◌≤◌, ◌<◌}
 use native.Mathlib.Omega.{arith}
 use mathlib.Core.Bool.{Bool, true, false, cond}
 use mathlib.Core.List.{List, [], ◌∷◌, ◌++◌}
 use lib.Dec.{ltb}
 use lib.ListN.{length, get_or, length-append}
 use borrow.Author.Tests.{lt-ltb, le-ltb, ltb-true, ltb-false}
+use Rattle.std.specs.Fmt.{decimal as text}
+use Rattle.std.proofs.lemmas.Fmt.{decimal_by_steps}
 use Rattle.report.specs.Lines.{digits, decimal}
 use Rattle.report.specs.Decimal.{Digit, said, InDecimal}
 
@@ -33,6 +35,10 @@ unfolding decimal digits
 decimal-more n h =
     let e : digits n (n / 10) ≡ digits (suc (n / 10)) (n / 10) = enough n (suc (n / 10)) (n / 10) (omega (arith, h)) (omega arith) in
     rw (le-ltb n 10 h) (ap (λ (r : List ℕ). r ++ ((48 + n % 10) ∷ [])) e)
+
+-- what the library prints
+pub decimal_text : (n : ℕ) → n < 2 ^ 64 → text n ≡ decimal n
+decimal_text n h = decimal_by_steps (λ n l. l ≡ decimal n) (λ n k. sym (decimal-one n k)) (λ n l k e. rw e (sym (decimal-more n k))) n h
 
 -- ---- how many digits
 

@@ -1,8 +1,5 @@
 pub mod Decimal
 pub mod Putting
 pub mod Rows
-pub mod Parts
-pub mod Handing
-pub mod Ran
 pub mod Short
 pub mod Whole

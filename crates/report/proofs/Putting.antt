@@ -1,202 +1,160 @@
--- Laws of bytes put into an output, one after the other.
+-- Laws of bytes written from an output's start, one after the other.
 use mathlib.Core.Path.{◌≡◌, refl, sym, ap, ◌∙◌}
-use Prim.Native.Nat.{ℕ, zero, suc, ◌+◌, ◌/◌, ◌%◌, ◌≤◌, ◌<◌}
-use native.Mathlib.Nat.{add_assoc}
+use Prim.Native.Nat.{ℕ, zero, suc, ◌+◌, ◌-◌, ◌≤◌, ◌<◌}
 use native.Mathlib.Numerals.{add-one}
 use native.Mathlib.Omega.{arith}
 use mathlib.Core.Bool.{Bool, true, false}
 use mathlib.Core.List.{List, [], ◌∷◌, ◌++◌, append_assoc, append-nil}
 use lib.Dec.{ltb}
-use lib.ListN.{length, get_or, take, drop, set, length-append, length-set, drop_of_length-le, take-append-drop}
-use lib.Seq.{drop-cons}
-use mir.Syntax.{w64}
-use mir.Val.{Fits}
-use borrow.Author.Rules.{rules}
+use lib.ListN.{length, get_or, take, drop, set, length-append, length-drop, drop_of_length-le}
+use lib.Seq.{length-take-le, take_all, take_at, drop_at, drop-drop, drop-cons, set_split}
 use borrow.Author.Tests.{ltb-true, ltb-false}
-use Rattle.base.proofs.Spliced.{splice-twice, set-splice}
+use borrow.Rule.Slice.PartMut.{put_mid}
+use Rattle.base.specs.Spliced.{over}
 use Rattle.report.specs.Lines.{decimal, fields, line, lines}
 use Rattle.report.specs.Parts.{Puts, Room}
-use Rattle.report.proofs.Decimal.{decimal-one, decimal-more}
+use Rattle.report.proofs.Decimal.{decimal_text}
 
-pub puts_none : (d : List ℕ) (at : ℕ) → Puts [] d at at d
-puts_none d at =
-    let z : at + 0 ≡ at = omega arith in
-    record { output = rw (append-nil (take at d), z) (sym (take-append-drop at d)); place = sym z }
+over-long : (x d : List ℕ) → length x ≤ length d → length (over x d) ≡ length d
+over-long x d h = omega (arith, length-append x (drop (length x) d), length-drop (length x) d, h)
 
-pub puts_one : (d : List ℕ) (at b : ℕ) → at < length d → Puts (b ∷ []) d at (at + 1) (set d at b)
-puts_one d at b h = record { output = set-splice d at b h; place = refl }
+pub puts-as : {x y d last : List ℕ} {n : ℕ} → x ≡ y → Puts x d n last → Puts y d n last
+puts-as e p = rw (← e) p
 
-pub puts-both : (x y d next last : List ℕ) (at m n : ℕ) → at ≤ length d → Puts x d at m next → Puts y next m n last → Puts (x ++ y) d at n last
-puts-both x y d next last at m n h p q = record {
-  output = rw (q.output, p.output, p.place) (splice-twice d at x y h);
-  place = rw (q.place, p.place, length-append x y, add_assoc);
-}
+-- one byte
+pub puts_one : (d : List ℕ) (b : ℕ) → 0 < length d → Puts (b ∷ []) d 1 (set d 0 b)
+puts_one [] b h = absurd (omega (arith, h))
+puts_one (x ∷ d) b h = record { output = refl; count-is = refl }
 
-puts-as : (x y d last : List ℕ) (at n : ℕ) → x ≡ y → Puts x d at n last → Puts y d at n last
-puts-as x y d last at n e p = rw (← e) p
+-- what is left of an output from a place on, as the code lends it
+abbrev pub rest_of : ℕ → List ℕ → List ℕ
+rest_of at out = take (length out - at) (drop at out)
 
--- ---- a number
+rest-is : (at : ℕ) (out : List ℕ) → rest_of at out ≡ drop at out
+rest-is at out = take_all (length out - at) (drop at out) (omega (arith, length-drop at out))
 
-pub falls-by-ten : (n t : ℕ) → n ≡ t → 10 ≤ n → n / 10 < t
-falls-by-ten n t e h = omega (arith, e, h)
+-- what is written first has room where both parts have it
+pub first_room : (x y d : List ℕ) → Room (x ++ y) d → Room x d
+first_room x y d room = omega (arith, room, length-append x y)
 
-module _ (n at : ℕ) (d : List ℕ) (room : Room (decimal n) at d) where
-  pub digit_room : n < 10 → at < length d
-  digit_room h = omega (arith, room, ap length (decimal-one n h))
+-- what is written after other bytes
+module _ (x y d out : List ℕ) (at : ℕ) (room : Room (x ++ y) d) (p : Puts x d at out) where
+  shorter : length x ≤ length d
+  shorter = omega (arith, room, length-append x y)
 
-  pub digit-put : n < 10 → Puts (decimal n) d at (at + 1) (set d at (48 + n))
-  digit-put h = puts-as ((48 + n) ∷ []) (decimal n) d (set d at (48 + n)) at (at + 1) (sym (decimal-one n h)) (puts_one d at (48 + n) (digit_room h))
+  pub out-long : length out ≡ length d
+  out-long = ap length p.output ∙ over-long x d shorter
 
-  more-long : 10 ≤ n → length (decimal n) ≡ length (decimal (n / 10)) + 1
-  more-long h = ap length (decimal-more n h) ∙ length-append (decimal (n / 10)) ((48 + n % 10) ∷ [])
+  pub next_bound : at ≤ length out
+  next_bound = omega (arith, p.count-is, out-long, shorter)
 
-  pub more_room : 10 ≤ n → Room (decimal (n / 10)) at d
-  more_room h = omega (arith, room, more-long h)
+  pub next_room : Room y (rest_of at out)
+  next_room = rw (rest-is at out) (omega (arith, length-drop at out, out-long, p.count-is, room, length-append x y))
 
-  pub last-room : (next : ℕ) (after : List ℕ) → 10 ≤ n → Puts (decimal (n / 10)) d at next after → length after ≡ length d → next < length after
-  last-room next after h p l = omega (arith, room, more-long h, p.place, l)
+  pub next_put : (k : ℕ) (sub : List ℕ) → Puts y (rest_of at out) k sub → Puts (x ++ y) d (at + k) (put_mid at (length out - at) out sub)
+  next_put k sub q =
+      let t : take at out ≡ x = ap (take at) p.output ∙ take_at x (drop (length x) d) at (sym p.count-is) in
+      let r : drop at out ≡ drop (length x) d = ap (drop at) p.output ∙ drop_at x (drop (length x) d) at (sym p.count-is) in
+      let z : drop (length out - at) (drop at out) ≡ [] = drop_of_length-le (drop at out) {i = length out - at} (omega (arith, length-drop at out)) in
+      record {
+        output = rw (z, t, q.output, rest-is at out, r, append-nil (over y (drop (length x) d)), drop-drop (length y) (length x) d, ← length-append x y) (sym (append_assoc x y (drop (length (x ++ y)) d)));
+        count-is = omega (arith, p.count-is, q.count-is, length-append x y);
+      }
 
-  -- the output's length fits a number, so a place in it does
-  pub last-small : (next : ℕ) (after : List ℕ) → 10 ≤ n → Puts (decimal (n / 10)) d at next after → length after ≡ length d → Fits w64 (length d)
-      → Fits w64 (next + 1)
-  last-small next after h p l k = omega (arith, last-room next after h p l, l, k)
+-- a number, as the library prints it
+pub ruleset number_put = (decimal_text, length-take-le)
 
-  pub last-put : (next : ℕ) (after : List ℕ) → 10 ≤ n → Puts (decimal (n / 10)) d at next after → length after ≡ length d
-      → Puts (decimal n) d at (next + 1) (set after next (48 + n % 10))
-  last-put next after h p l =
-      puts-as (decimal (n / 10) ++ ((48 + n % 10) ∷ [])) (decimal n) d (set after next (48 + n % 10)) at (next + 1) (sym (decimal-more n h))
-      (puts-both (decimal (n / 10)) ((48 + n % 10) ∷ []) d after (set after next (48 + n % 10)) at next (next + 1) (omega (arith, room)) p
-      (puts_one after next (48 + n % 10) (last-room next after h p l)))
+-- ---- a line: the numbers up to i have been put
 
--- what a function that writes a number asks
-pub ruleset number_put = (digit_room, digit-put, more_room, last-room, last-small, last-put, rules)
-
--- ---- a number after a space
-
-module _ (n at : ℕ) (d : List ℕ) (room : Room (32 ∷ decimal n) at d) where
-  pub space-room : at < length d
-  space-room = omega (arith, room)
-
-  pub after-space : Room (decimal n) (at + 1) (set d at 32)
-  after-space = rw length-set (omega (arith, room))
-
-  pub field_put : (next : ℕ) (after : List ℕ) → Puts (decimal n) (set d at 32) (at + 1) next after → Puts (32 ∷ decimal n) d at next after
-  field_put next after p = puts-both (32 ∷ []) (decimal n) d (set d at 32) after at (at + 1) next (omega (arith, room)) (puts_one d at 32 space-room) p
-
--- ---- a line: the numbers up to i have been put, from the place after its letter on; d is the output with the letter
-
-pub record Lining (d numbers : List ℕ) (start : ℕ) (out : List ℕ) (next i : ℕ) : Type 0 where
-  pub low : i ≤ length numbers
+pub record Lining (d numbers : List ℕ) (letter : ℕ) (out : List ℕ) (at i : ℕ) : Type 0 where
   pub w : List ℕ
-  pub puts : Puts w d start next out
-  pub left : w ++ fields (drop i numbers) ≡ fields numbers
-  pub long : length out ≡ length d
-  pub room : start + length (fields numbers) ≤ length d
+  pub puts : Puts w d at out
+  pub left : w ++ fields (drop i numbers) ≡ line letter numbers
 
-pub letter-room : (d numbers : List ℕ) (at letter : ℕ) → Room (line letter numbers) at d → at < length d
+pub letter_room : (d numbers : List ℕ) (letter : ℕ) → Room (line letter numbers) d → 0 < length d
 unfolding line
-letter-room d numbers at letter h = omega (arith, h)
+letter_room d numbers letter h = omega (arith, h)
 
-pub line-begin : (d numbers : List ℕ) (at letter : ℕ) → Room (line letter numbers) at d
-    → Lining (set d at letter) numbers (at + 1) (set d at letter) (at + 1) 0
+pub line_begin : (d numbers : List ℕ) (letter : ℕ) → 0 < length d → Lining d numbers letter (set d 0 letter) 1 0
 unfolding line
-line-begin d numbers at letter h = record {
-  low = omega arith;
-  w = [];
-  puts = puts_none (set d at letter) (at + 1);
-  left = refl;
-  long = refl;
-  room = rw length-set (omega (arith, h));
-}
+line_begin d numbers letter h = record { w = letter ∷ []; puts = puts_one d letter h; left = refl }
 
-module _ (d numbers : List ℕ) (start : ℕ) (out : List ℕ) (next i : ℕ) (s : Lining d numbers start out next i) where
-  -- what is left takes the rest of the room
-  taken : next + length (fields (drop i numbers)) ≡ start + length (fields numbers)
-  taken = omega (arith, s.puts.place, length-append s.w (fields (drop i numbers)), ap length s.left)
+module _ (d numbers : List ℕ) (letter : ℕ) (out : List ℕ) (at i : ℕ) (s : Lining d numbers letter out at i) (room : Room (line letter numbers) d) where
+  field : ℕ → List ℕ
+  field j = 32 ∷ decimal (get_or numbers j 0)
 
-  rest : i < length numbers → drop i numbers ≡ get_or numbers i 0 ∷ drop (i + 1) numbers
-  rest h = rw (drop-cons numbers i 0, add-one)
-
-  first : i < length numbers → fields (drop i numbers) ≡ (32 ∷ decimal (get_or numbers i 0)) ++ fields (drop (i + 1) numbers)
-  unfolding fields
-  first h = rw (rest h)
+  first : i < length numbers → fields (drop i numbers) ≡ field i ++ fields (drop (i + 1) numbers)
+  unfolding fields field
+  first h = rw (drop-cons numbers i 0, add-one)
 
   none : length numbers ≤ i → fields (drop i numbers) ≡ 10 ∷ []
   unfolding fields
   none h = rw (drop_of_length-le numbers {i = i} h)
 
-  pub number-room : i < length numbers → Room (32 ∷ decimal (get_or numbers i 0)) next out
-  number-room h = omega (arith, taken, s.room, s.long, ap length (first h), length-append (32 ∷ decimal (get_or numbers i 0)) (fields (drop (i + 1) numbers)))
+  field-fits : i < length numbers → Room (s.w ++ field i) d
+  field-fits h =
+      omega (arith, room, ap length s.left, length-append s.w (fields (drop i numbers)), ap length (first h), length-append (field i) (fields (drop (i + 1) numbers)), length-append s.w (field i))
 
-  pub line-again : (m : ℕ) (after : List ℕ) → i < length numbers → Puts (32 ∷ decimal (get_or numbers i 0)) out next m after
-      → length after ≡ length out → Lining d numbers start after m (i + 1)
-  line-again m after h p l = record {
-    low = omega (arith, h);
-    w = s.w ++ (32 ∷ decimal (get_or numbers i 0));
-    puts = puts-both s.w (32 ∷ decimal (get_or numbers i 0)) d out after start next m (omega (arith, s.room)) s.puts p;
-    left =
-        append_assoc s.w (32 ∷ decimal (get_or numbers i 0)) (fields (drop (i + 1) numbers))
-        ∙ ap (λ (r : List ℕ). s.w ++ r) (sym (first h))
-        ∙ s.left;
-    long = l ∙ s.long;
-    room = s.room;
+  feed-fits : length numbers ≤ i → Room (s.w ++ (10 ∷ [])) d
+  feed-fits h = omega (arith, room, ap length (ap (λ (l : List ℕ). s.w ++ l) (sym (none h)) ∙ s.left))
+
+  pub field_bound : i < length numbers → at ≤ length out
+  field_bound h = next_bound s.w (field i) d out at (field-fits h) s.puts
+
+  pub field_room : i < length numbers → Room (32 ∷ decimal (get_or numbers i 0)) (rest_of at out)
+  unfolding field
+  field_room h = next_room s.w (field i) d out at (field-fits h) s.puts
+
+  pub line_again : (k : ℕ) (sub : List ℕ) → i < length numbers → Puts (32 ∷ decimal (get_or numbers i 0)) (rest_of at out) k sub
+      → Lining d numbers letter (put_mid at (length out - at) out sub) (at + k) (i + 1)
+  unfolding field
+  line_again k sub h p = record {
+    w = s.w ++ field i;
+    puts = next_put s.w (field i) d out at (field-fits h) s.puts k sub p;
+    left = append_assoc s.w (field i) (fields (drop (i + 1) numbers)) ∙ ap (λ (l : List ℕ). s.w ++ l) (sym (first h)) ∙ s.left;
   }
 
-  pub feed-room : length numbers ≤ i → next < length out
-  feed-room h = omega (arith, taken, s.room, s.long, ap length (none h))
+  pub feed_bound : length numbers ≤ i → at < length out
+  feed_bound h = let e = next_room s.w (10 ∷ []) d out at (feed-fits h) s.puts in omega (arith, e, ap length (rest-is at out), length-drop at out)
 
-  pub feed-small : length numbers ≤ i → Fits w64 (length d) → Fits w64 (next + 1)
-  feed-small h k = omega (arith, feed-room h, s.long, k)
+  feed-set : length numbers ≤ i → set out at 10 ≡ put_mid at (length out - at) out (over (10 ∷ []) (rest_of at out))
+  feed-set h =
+      let z : drop (length out - at) (drop at out) ≡ [] = drop_of_length-le (drop at out) {i = length out - at} (omega (arith, length-drop at out)) in
+      rw (set_split out at 10 (feed_bound h), rest-is at out, z, append-nil (10 ∷ drop 1 (drop at out)), drop-drop 1 at out, add-one) refl
 
-  pub line-done : (d₀ : List ℕ) (at letter : ℕ) → d ≡ set d₀ at letter → start ≡ at + 1 → at < length d₀ → length numbers ≤ i
-      → Puts (line letter numbers) d₀ at (next + 1) (set out next 10)
-  unfolding line
-  line-done d₀ at letter e q r h =
-      let f : s.w ++ (10 ∷ []) ≡ fields numbers = ap (λ (x : List ℕ). s.w ++ x) (sym (none h)) ∙ s.left in
-      let a : Puts (s.w ++ (10 ∷ [])) d start (next + 1) (set out next 10) =
-      puts-both s.w (10 ∷ []) d out (set out next 10) start next (next + 1) (omega (arith, s.room)) s.puts (puts_one out next 10 (feed-room h)) in
-      let b : Puts (fields numbers) (set d₀ at letter) (at + 1) (next + 1) (set out next 10) = rw (← f, ← e, ← q) a in
-      puts-both (letter ∷ []) (fields numbers) d₀ (set d₀ at letter) (set out next 10) at (at + 1) (next + 1) (omega (arith, r)) (puts_one d₀ at letter r) b
+  pub line_done : length numbers ≤ i → Puts (line letter numbers) d (at + 1) (set out at 10)
+  line_done h =
+      puts-as (ap (λ (l : List ℕ). s.w ++ l) (sym (none h)) ∙ s.left)
+      (rw (feed-set h) (next_put s.w (10 ∷ []) d out at (feed-fits h) s.puts 1 _ (record { output = refl; count-is = refl })))
 
 -- ---- lines one after the other: those of the numbers below i have been put
 
-module _ (f : ℕ → List ℕ) where
-  pub record Listing (n : ℕ) (d : List ℕ) (start : ℕ) (out : List ℕ) (at i : ℕ) : Type 0 where
-    pub low : i ≤ n
-    pub puts : Puts (lines f i) d start at out
-    pub long : length out ≡ length d
-    pub room : start + length (lines f n) ≤ length d
+grows : (f : ℕ → List ℕ) (n i : ℕ) → i ≤ n → length (lines f i) ≤ length (lines f n)
+unfolding lines
+grows f zero i h = let e : i ≡ 0 = omega (arith, h) in rw e (omega arith)
+grows f (suc n) i h = go (ltb n i) refl (grows f n i)
+  where
+    go : (t : Bool) → ltb n i ≡ t → (i ≤ n → length (lines f i) ≤ length (lines f n)) → length (lines f i) ≤ length (lines f (suc n))
+    go true p ih = let e : i ≡ suc n = omega (arith, h, ltb-true n i p) in rw e (omega arith)
+    go false p ih = omega (arith, ih (ltb-false n i p), length-append (lines f n) (f n))
 
-  grows : (n i : ℕ) → i ≤ n → length (lines f i) ≤ length (lines f n)
+pub lines_begin : (f : ℕ → List ℕ) (d : List ℕ) → Puts (lines f 0) d 0 d
+unfolding lines
+lines_begin f d = record { output = refl; count-is = refl }
+
+module _ (f : ℕ → List ℕ) (n i at : ℕ) (d out : List ℕ) (room : Room (lines f n) d) (p : Puts (lines f i) d at out) (h : i < n) where
+  one-more : lines f (i + 1) ≡ lines f i ++ f i
   unfolding lines
-  grows zero i h = let e : i ≡ 0 = omega (arith, h) in rw e (omega arith)
-  grows (suc n) i h = go (ltb n i) refl (grows n i)
-    where
-      go : (t : Bool) → ltb n i ≡ t → (i ≤ n → length (lines f i) ≤ length (lines f n)) → length (lines f i) ≤ length (lines f (suc n))
-      go true p ih = let e : i ≡ suc n = omega (arith, h, ltb-true n i p) in rw e (omega arith)
-      go false p ih = omega (arith, ih (ltb-false n i p), length-append (lines f n) (f n))
+  one-more = rw add-one
 
-  pub lines-begin : (n : ℕ) (d : List ℕ) (start : ℕ) → Room (lines f n) start d → Listing n d start d start 0
-  unfolding lines
-  lines-begin n d start h = record { low = omega arith; puts = puts_none d start; long = refl; room = h }
+  line-fits : Room (lines f i ++ f i) d
+  line-fits = let g = grows f n (i + 1) (omega (arith, h)) in omega (arith, room, g, ap length one-more)
 
-  module _ (n : ℕ) (d : List ℕ) (start : ℕ) (out : List ℕ) (at i : ℕ) (s : Listing n d start out at i) where
-    next-long : length (lines f (i + 1)) ≡ length (lines f i) + length (f i)
-    unfolding lines
-    next-long = rw add-one (length-append (lines f i) (f i))
+  pub lines_bound : at ≤ length out
+  lines_bound = next_bound (lines f i) (f i) d out at line-fits p
 
-    pub lines-room : (bytes : List ℕ) → i < n → bytes ≡ f i → Room bytes at out
-    lines-room bytes h e = rw e (omega (arith, next-long, s.puts.place, s.long, s.room, grows n (i + 1) (omega (arith, h))))
+  pub lines_room : (bytes : List ℕ) → bytes ≡ f i → Room bytes (rest_of at out)
+  lines_room bytes e = rw e (next_room (lines f i) (f i) d out at line-fits p)
 
-    pub lines-again : (bytes : List ℕ) (m : ℕ) (after : List ℕ) → i < n → Puts bytes out at m after → bytes ≡ f i → length after ≡ length out
-        → Listing n d start after m (i + 1)
-    unfolding lines
-    lines-again bytes m after h p e l = record {
-      low = omega (arith, h);
-      puts = rw add-one (puts-both (lines f i) (f i) d out after start at m (omega (arith, s.room)) s.puts (puts-as bytes (f i) out after at m e p));
-      long = l ∙ s.long;
-      room = s.room;
-    }
-
-    pub lines-done : n ≤ i → Puts (lines f n) d start at out
-    lines-done h = let e : i ≡ n = omega (arith, h, s.low) in rw (← e) s.puts
+  pub lines_again : (bytes : List ℕ) (k : ℕ) (sub : List ℕ) → bytes ≡ f i → Puts bytes (rest_of at out) k sub → Puts (lines f (i + 1)) d (at + k) (put_mid at (length out - at) out sub)
+  lines_again bytes k sub e q = rw one-more (next_put (lines f i) (f i) d out at line-fits p k sub (puts-as e q))

@@ -1,4 +1,4 @@
-// A Set of one row (document 01, 'Bands'; document 02, #104): its answer and the row that it forms, before the bands settle.
+//! A Set of one row: its answer, or the row that it forms, before the bands settle.
 #![tactic(auto)]
 
 ghost use Rattle.std.specs.Prelude.{not, ◌&&◌, ◌||◌, ◌≡◌, ltb, length};
@@ -9,94 +9,72 @@ ghost use Rattle.band_columns.specs.Sets.{columns_fit};
 ghost use Rattle.row_set.specs.Forming.{SetsRow};
 ghost use Rattle.row_set.specs.Parts.{TokensFor, Forms};
 
-use answer::Answer;
+use answer::Refusal;
 use band::Row;
 use band_columns::BandColumns;
 use evaluator::Evaluation;
 use expression::Expression;
-use token_reader::Tokens;
-
-// What a Set of a row hands back: the row that it forms, or the row as it was where it is refused.
-#[derive(Clone, Copy)]
-pub struct RowAnswer {
-    pub answer: Answer,
-    pub row: Row,
-}
 
 // Whether a field of a band Set exceeds its range.
-fn unfit(columns: BandColumns, tokens: &[u8]) -> bool
+fn is_unfit(columns: BandColumns, tokens: &[u8]) -> bool
     ensures { result ≡ (not (columns_fit columns) || ltb most_token_bytes (length tokens.now)) }
 {
-    if columns.fit() {
-        return token_reader::MOST_BYTES < tokens.len();
-    }
-    true
+    !columns.fit() || token_reader::MOST_BYTES < tokens.len()
 }
 
-// What the bytes of a band Set read to, where the Set names them.
-fn tokens_for(columns: BandColumns, tokens: &[u8]) -> Tokens
+#[tactic(auto, using(crate::proofs::Setting::tokens_read, crate::proofs::Setting::tokens_unread))]
+// What the bytes of a band Set read to, where the Set names the expression.
+fn expression_for(columns: BandColumns, tokens: &[u8]) -> Result<Expression, Refusal>
     ensures { TokensFor columns tokens.now result }
 {
     if columns.names_expression() {
         return token_reader::read(tokens);
     }
-    let expression = Expression::empty();
-    Tokens {
-        answer: Answer::Done,
-        expression,
-    }
+    Ok(Expression::empty())
 }
 
-// Whether a Set whose new row has a value is refused as malformed: where it names the expression.
-fn malformed(columns: BandColumns, v: Evaluation) -> bool
+// Whether a Set names an expression that is malformed, by the value of the row that it forms.
+fn is_malformed(columns: BandColumns, v: Evaluation) -> bool
     ensures { result ≡ (named 32 columns.mask && is_malformed v) }
 {
-    match v {
-        Evaluation::True => false,
-        Evaluation::False => false,
-        Evaluation::Malformed => columns.names_expression(),
-    }
+    columns.names_expression() && v == Evaluation::Malformed
 }
 
+#[tactic(auto, using(crate::proofs::Setting::forming))]
 // The row that a Set forms, unless its expression is malformed or it is held.
-fn form(row: Row, conditions: [bool; 16], columns: BandColumns, expression: Expression) -> RowAnswer
-    ensures { Forms conditions columns expression row result }
+fn form(
+    row: &Row,
+    conditions: &[bool; 16],
+    columns: BandColumns,
+    expression: Expression,
+) -> Result<Row, Refusal>
+    ensures { Forms conditions.now columns expression row.now result }
 {
     let new = band_columns::form(row, columns, expression);
     let v = new.value(conditions);
-    if malformed(columns, v) {
-        return RowAnswer {
-            answer: Answer::Malformed,
-            row,
-        };
+    if is_malformed(columns, v) {
+        return Err(Refusal::Malformed);
     }
-    if band_columns::held(new, columns, v) {
-        return RowAnswer {
-            answer: Answer::Held,
-            row,
-        };
+    if band_columns::held(&new, columns, v) {
+        return Err(Refusal::Held);
     }
-    RowAnswer {
-        answer: Answer::Done,
-        row: new,
-    }
+    Ok(new)
 }
 
-// What a Set makes of a row under the sixteen conditions: 2, 3, 4, 13, 8 or done.
-pub fn set(row: Row, conditions: [bool; 16], columns: BandColumns, tokens: &[u8]) -> RowAnswer
-    ensures { SetsRow conditions columns tokens.now row result }
+#[tactic(auto, using(crate::proofs::Setting::setting))]
+/// The row that a Set makes of a row under the sixteen conditions. It is refused where a field exceeds its range, where the bytes of the
+/// expression are not its tokens or hold too many elements, where the expression is malformed, and where the Set is held.
+pub fn set(
+    row: &Row,
+    conditions: &[bool; 16],
+    columns: BandColumns,
+    tokens: &[u8],
+) -> Result<Row, Refusal>
+    ensures { SetsRow conditions.now columns tokens.now row.now result }
 {
-    if unfit(columns, tokens) {
-        return RowAnswer {
-            answer: Answer::OutOfRange,
-            row,
-        };
+    if is_unfit(columns, tokens) {
+        return Err(Refusal::OutOfRange);
     }
-    let read = tokens_for(columns, tokens);
-    let answer = read.answer;
-    if answer.number() == 0 {
-        let expression = read.expression;
-        return form(row, conditions, columns, expression);
-    }
-    RowAnswer { answer, row }
+    let expression = expression_for(columns, tokens)?;
+    form(row, conditions, columns, expression)
 }

@@ -3,13 +3,13 @@ use mathlib.Core.Path.{◌≡◌, refl, sym, ap, ◌∙◌, subst}
 use Prim.Native.Nat.{ℕ}
 use native.Mathlib.Omega.{arith}
 use mathlib.Core.Logic.{◌↔◌}
-use mathlib.Core.Bool.{Bool, true, false, cond, ◌&&◌}
+use mathlib.Core.Bool.{Bool, true, false, cond, ◌&&◌, true≢false}
 use mathlib.Core.List.{List, [], ◌∷◌, ◌++◌}
 use lib.Dec.{leb}
 use lib.ListN.{length}
 use lib.Seq.{take_all}
 use Rattle.base.specs.Spliced.{over}
-use Rattle.answer.specs.Numbers.{number_of}
+use Rattle.std.specs.Prelude.{Result, Ok, Err, IsOk}
 use Rattle.band.specs.Rows.{locked_on}
 use Rattle.drive.specs.declared.Drive.{Drive}
 use Rattle.drive.specs.State.{fresh_drive, row_at, value_at}
@@ -17,16 +17,13 @@ use Rattle.drive.specs.Events.{Event, answer_of, step_of, run_of, along, answers
 use Rattle.condition.specs.History.{own_set, moments, LockedByHistory}
 use Rattle.condition.specs.Compared.{answers_to}
 use Rattle.condition.proofs.Condition.{condition-3}
-use Rattle.answer.specs.declared.Answer.TheVariants.{BadScript}
-use Rattle.script.specs.declared.Checked.{Checked}
-use Rattle.script.specs.declared.Checked.TheVariants as C
-use Rattle.script.specs.Whole.{most_script_bytes, Script, read_script, checked_in, check_of}
+use Rattle.script.specs.declared.ScriptError.{ScriptError}
+use Rattle.script.specs.Whole.{most_script_bytes, Script, read_script}
 use Rattle.script.proofs.Few.{few-events}
 use Rattle.run.specs.declared.Ran.{Ran}
-use Rattle.run.specs.Outcome.{outcome, outcome_in, refused_run, run_events, run_script}
-use Rattle.run.specs.Parts.{fewer_of, Refuses, RunsFirst}
+use Rattle.run.specs.Outcome.{outcome, outcome_by, outcome_in, refused_run, run_events, run_script}
 use Rattle.run.specs.Condition3.{own_answers, RanWhole, Condition3OfRun, RunWhole, Condition3OfTwo}
-use Rattle.run.proofs.Whole.{accepted-is, bad-script, script-run}
+use Rattle.run.proofs.Whole.{accepted-is}
 
 -- the answers written to a band's Sets are the answers to its Sets
 own-written : (band : ℕ) (d : Drive) (es : List Event) (rest : List ℕ) → own_answers band es (along answer_of d es ++ rest) ≡ answers_to band d es
@@ -38,10 +35,20 @@ own-written band d (e ∷ es) rest = ap (λ l. cond (own_set band (λ c tokens. 
     front true x l = refl
     front false x l = refl
 
+-- a run that is done is not refused for a short buffer
+done-runs : (events : Result ℕ ScriptError) (drive : Drive) (answers stops : List ℕ) → IsOk events → {answers' stops' : List ℕ} → outcome_by events drive answers stops ≡ refused_run 11 0 answers' stops' → ⊥
+done-runs (Ok count) drive answers stops k h = let z : ◌≡◌ {A = ℕ} 0 11 = cc in omega (arith, z)
+done-runs (Err error) drive answers stops k h = absurd (true≢false (sym k))
+
 -- a whole run's drive and the answers that it wrote
 pub record Ended (r : Ran) (answers answers' : List ℕ) (fresh : Drive) (es : List Event) : Type 0 where
   pub drive-is : r.drive ≡ run_of fresh es
   pub answers-are : answers' ≡ over (answers_of fresh es) answers
+
+same-drive : (events : Result ℕ ScriptError) (drive : Drive) (answers stops : List ℕ) (answer place count : ℕ) (drive' : Drive) (answers' stops' : List ℕ)
+    → outcome_by events drive answers stops ≡ outcome answer place count drive' answers' stops' → (drive ≡ drive') × (answers ≡ answers')
+same-drive (Ok n) drive answers stops answer place count drive' answers' stops' h = (cc, cc)
+same-drive (Err e) drive answers stops answer place count drive' answers' stops' h = (cc, cc)
 
 module _ (s : List ℕ) (most : ℕ) (answers stops : List ℕ) (r : Ran) (answers' stops' : List ℕ)
     (o : outcome_in r answers' stops' ≡ run_script (read_script s) most answers stops) where
@@ -56,8 +63,8 @@ module _ (s : List ℕ) (most : ℕ) (answers stops : List ℕ) (r : Ran) (answe
 
       go : (t : Bool) → outcome_in r answers' stops' ≡ cond t (outcome 0 0 (length es) (run_of (fresh_drive capacity bands sensors) es) (over (answers_of (fresh_drive capacity bands sensors) es) answers) (over (stops_in (fresh_drive capacity bands sensors) es) stops)) (refused_run 11 0 answers stops)
           → Ended r answers answers' (fresh_drive capacity bands sensors) es
-      go true h = record { drive-is = cc; answers-are = cc }
-      go false h = let n : number_of r.answer ≡ 11 = cc in absurd (omega (arith, n, w.done))
+      go true h = let q = same-drive r.events r.drive answers' stops' _ _ _ _ _ _ h in record { drive-is = q.0; answers-are = q.1 }
+      go false h = absurd (done-runs r.events r.drive answers' stops' w.done h)
 
   pub own-are : (band capacity bands sensors : ℕ) (es : List Event) → RanWhole s most r capacity bands sensors es → own_answers band es answers' ≡ answers_to band (fresh_drive capacity bands sensors) es
   own-are band capacity bands sensors es w =
@@ -80,16 +87,6 @@ module _ (s : List ℕ) (most : ℕ) (answers stops : List ℕ) (r : Ran) (answe
         let f = (accepted-is s capacity bands sensors es w.reads).fits in
         subst (λ (x : Drive). (locked_on side (row_at x band) ≡ true) ↔ LockedByHistory side band (moments (fresh_drive capacity bands sensors) es)) (sym d) (condition-3.history capacity bands sensors f band b side es);
   }
-
--- ---- the arms of the run
-
-module _ (s : List ℕ) (most : ℕ) (answers stops : List ℕ) (k : Checked) (e : checked_in k ≡ check_of s) where
-  pub bad-holds : (place : ℕ) (r : Ran) → k ≡ C.BadAt place → Refuses BadScript place r → Condition3OfRun s most r answers
-  bad-holds place r q p = holds s most answers stops r answers stops (bad-script s most answers stops k e place r q p)
-
-  pub run_holds : (all count : ℕ) (r : Ran) (answers' stops' : List ℕ) → k ≡ C.Reads all → count ≡ fewer_of all most
-      → RunsFirst s count answers stops r answers' stops' → Condition3OfRun s most r answers'
-  run_holds all count r answers' stops' q c p = holds s most answers stops r answers' stops' (script-run s most answers stops k e all count r answers' stops' q c p)
 
 -- ---- two runs
 

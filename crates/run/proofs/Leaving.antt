@@ -1,5 +1,5 @@
 -- A script that is run whole, and the drive that it leaves.
-use mathlib.Core.Path.{◌≡◌, refl, ap, ◌∙◌}
+use mathlib.Core.Path.{◌≡◌, refl, sym, ap, ◌∙◌}
 use Prim.Native.Nat.{ℕ, ◌≤◌}
 use native.Mathlib.Omega.{arith}
 use mathlib.Core.List.{List}
@@ -7,12 +7,17 @@ use lib.ListN.{length}
 use lib.Seq.{take_all}
 use borrow.Author.Tests.{le-leb}
 use Rattle.base.specs.Spliced.{over}
+use Rattle.std.specs.Prelude.{Result, Ok, Err}
+use Rattle.script.specs.declared.BadScript.{BadScript}
+use Rattle.script.specs.declared.ScriptError.{ScriptError}
+use Rattle.script.specs.declared.ScriptError.TheVariants as E
+use Rattle.script.specs.Errors.{error_number, error_place}
 use Rattle.drive.specs.State.{fresh_drive}
 use Rattle.drive.specs.Events.{Event, run_of, answers_of, stops_in}
 use Rattle.script.specs.Whole.{most_script_bytes, most_events, Script, accepted, bad, read_script}
 use Rattle.script.proofs.Few.{few-events}
 use Rattle.run.specs.declared.Ran.{Ran}
-use Rattle.run.specs.Outcome.{RunOutcome, outcome, outcome_in, run_events, run_script}
+use Rattle.run.specs.Outcome.{RunOutcome, outcome, outcome_by, outcome_in, run_events, run_script}
 use Rattle.run.specs.Left.{LeftOutcome, leaves, left_in, left_by}
 
 -- what a run leaves: its answer, its place and its drive
@@ -37,6 +42,21 @@ module _ (s answers stops : List ℕ) (long : most_events ≤ length answers) (w
       go (accepted capacity bands sensors es) q = ap left_of (whole capacity bands sensors es q)
       go (bad place) q = refl
 
-  pub left-by-run : (r : Ran) (answers' stops' : List ℕ) → outcome_in r answers' stops' ≡ run_script (read_script s) most_script_bytes answers stops
-      → left_in (record { answer = r.answer; place = r.place; drive = r.drive }) ≡ left_by (read_script s)
-  left-by-run r answers' stops' w = ap left_of w ∙ run-left
+  pub left_ok : (r : Ran) (count : ℕ) (answers' stops' : List ℕ) → r.events ≡ Ok count → outcome_in r answers' stops' ≡ run_script (read_script s) most_script_bytes answers stops
+      → left_in (Ok r.drive) ≡ left_by (read_script s)
+  left_ok r count answers' stops' e w = ap (λ (x : Result ℕ ScriptError). left_of (outcome_by x r.drive answers' stops')) (sym e) ∙ ap left_of w ∙ run-left
+
+  -- it is refused only where it is bad: the buffers are long enough
+  pub left_bad : (r : Ran) (error : ScriptError) (b : BadScript) (answers' stops' : List ℕ) → r.events ≡ Err error → outcome_in r answers' stops' ≡ run_script (read_script s) most_script_bytes answers stops
+      → b.place ≡ error_place error → left_in (Err b) ≡ left_by (read_script s)
+  left_bad r error b answers' stops' f w e = go (read_script s) refl (ap (λ (x : Result ℕ ScriptError). outcome_by x r.drive answers' stops') (sym f) ∙ w)
+    where
+      go : (o : Script) → read_script s ≡ o → outcome_by (Err error) r.drive answers' stops' ≡ run_script o most_script_bytes answers stops → left_in (Err b) ≡ left_by o
+      go (accepted capacity bands sensors es) q h =
+          let z : error_number error ≡ 0 = let k = h ∙ whole capacity bands sensors es q in cc in
+          absurd (some error z)
+        where
+          some : (x : ScriptError) → error_number x ≡ 0 → ⊥
+          some (E.Bad place) y = omega (arith, y)
+          some E.ShortBuffer y = omega (arith, y)
+      go (bad place) q h = let z : error_place error ≡ place = cc in rw (e, z)

@@ -8,7 +8,9 @@ use lib.Dec.{leb, ltb}
 use lib.ListN.{length, take, get_or, length-take}
 use mir.Syntax.{w8}
 use mir.Val.{Fits}
-use Rattle.answer.specs.declared.Answer.{Answer}
+use Rattle.std.specs.Prelude.{Result, Ok, Err}
+use Rattle.script.specs.declared.ScriptError.{ScriptError}
+use Rattle.drive.specs.declared.Drive.{Drive}
 use Rattle.base.proofs.Cases.{cond_both}
 use Rattle.base.specs.Lists.{Bytes}
 use Rattle.base.proofs.Bytes.{bytes_drop, bytes_take}
@@ -18,17 +20,14 @@ use Rattle.reached.specs.Reached.{Reached, AllFields}
 use Rattle.reached.proofs.Reaching.{fresh-reached, run-reached}
 use Rattle.event_reader.specs.Fields.{Parsed, event, broken, tokens_at, event_at}
 use Rattle.event_reader.proofs.Progress.{event-tokens}
-use Rattle.script.specs.declared.Checked.{Checked}
-use Rattle.script.specs.declared.Checked.TheVariants as C
 use Rattle.script.specs.Events.{Events, events, bad_from, before, and_then}
 use Rattle.script.specs.Parts.{events_in, events_from}
-use Rattle.script.specs.Whole.{most_events, Script, accepted, bad, read_script, checked_in, check_of}
+use Rattle.script.specs.Whole.{most_events, Script, accepted, bad, read_script}
 use Rattle.script.proofs.Few.{few-events}
 use Rattle.run.specs.declared.Ran.{Ran}
 use Rattle.run.specs.Reached.{RunReaches}
-use Rattle.run.specs.Outcome.{RunOutcome, outcome, run_events, run_script}
-use Rattle.run.specs.Parts.{fewer_of, Refuses, RunsFirst}
-use Rattle.run.proofs.Whole.{accepted-is, script-run}
+use Rattle.run.specs.Outcome.{RunOutcome, outcome, outcome_by, outcome_in, run_events, run_script}
+use Rattle.run.proofs.Whole.{accepted-is}
 
 -- ---- the tokens are bytes
 
@@ -88,13 +87,13 @@ script-reached s most answers stops b = go (read_script s) refl
         (fields-take most es (events-fields (length s - a.next) s a.next es b a.after))
         (omega (arith, length-take most es, few-events s capacity bands sensors es q))
 
--- ---- the arms of the run
+-- ---- the run itself
 
-pub bad-reached : (answer : Answer) (place : ℕ) (r : Ran) → Refuses answer place r → RunReaches r
-bad-reached answer place r p = record { drive = subst Reached (sym p.drive-is) refused; few = omega (arith, p.count-is) }
+reached-in : (events : Result ℕ ScriptError) (drive : Drive) (answers stops : List ℕ) → ReachedIn (outcome_by events drive answers stops) → RunReaches (record { events = events; drive = drive })
+reached-in (Ok count) drive answers stops h = record { drive = h.0; few = h.1 }
+reached-in (Err error) drive answers stops h = record { drive = h.0; few = tt }
 
-pub all-reached : (s : List ℕ) (most : ℕ) (answers stops : List ℕ) (k : Checked) → checked_in k ≡ check_of s → (all count : ℕ) (r : Ran) (answers' stops' : List ℕ)
-    → k ≡ C.Reads all → count ≡ fewer_of all most → RunsFirst s count answers stops r answers' stops' → ((i : ℕ) → Fits w8 (get_or s i 0)) → RunReaches r
-all-reached s most answers stops k e all count r answers' stops' q c p b =
-    let x = subst ReachedIn (sym (script-run s most answers stops k e all count r answers' stops' q c p)) (script-reached s most answers stops (λ i. omega (arith, b i))) in
-    record { drive = x.0; few = x.1 }
+pub all_reached : (s : List ℕ) (most : ℕ) (answers stops : List ℕ) (r : Ran) (answers' stops' : List ℕ) → outcome_in r answers' stops' ≡ run_script (read_script s) most answers stops
+    → ((i : ℕ) → Fits w8 (get_or s i 0)) → RunReaches r
+all_reached s most answers stops r answers' stops' e b =
+    reached-in r.events r.drive answers' stops' (subst ReachedIn (sym e) (script-reached s most answers stops (λ i. omega (arith, b i))))

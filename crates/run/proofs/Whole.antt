@@ -1,42 +1,33 @@
 -- A script's run as a whole: which events are run, and what is refused.
-use mathlib.Core.Path.{◌≡◌, refl, sym, ap, ◌∙◌}
+use mathlib.Core.Path.{◌≡◌, refl, sym, ap, ap₂, ◌∙◌}
+use mathlib.Core.Logic.{◌⊎◌, inl, inr}
 use Prim.Native.Nat.{ℕ, ◌≤◌, ◌<◌}
 use native.Mathlib.Omega.{arith}
-use mathlib.Core.Bool.{Bool, true, false, cond, ◌&&◌}
+use mathlib.Core.Bool.{Bool, true, false, cond}
 use mathlib.Core.List.{List}
-use lib.Dec.{leb, ltb}
+use lib.Dec.{ltb}
 use lib.ListN.{length, take}
 use lib.Seq.{length-take-le, take_all}
-use borrow.Author.Tests.{lt-ltb, le-ltb, le-leb, lt-leb, ltb-true, ltb-false}
+use borrow.Author.Tests.{le-leb, lt-leb, ltb-true, ltb-false}
 use Rattle.base.specs.Spliced.{over}
-use Rattle.answer.specs.declared.Answer.{Answer}
-use Rattle.answer.specs.declared.Answer.TheVariants.{Done, BadScript, ShortBuffer}
-use Rattle.answer.specs.Numbers.{number_of}
+use Rattle.std.specs.Prelude.{Option, Some, None, Result, Ok, Err}
 use Rattle.drive.specs.declared.Drive.{Drive}
-use Rattle.drive.specs.declared.Fresh.{Fresh}
-use Rattle.drive.specs.State.{header_fits, fresh_drive, fresh_of, Freshens}
+use Rattle.drive.specs.declared.Header as D
+use Rattle.drive.specs.State.{header_fits, fresh_drive, fresh_of}
 use Rattle.drive.specs.Events.{Event, run_of, answers_of, stops_in}
 use Rattle.numbers.specs.Groups.{done, bad_script, Found, found, none, number_at}
-use Rattle.script.specs.declared.HeaderRead.{HeaderRead}
-use Rattle.script.specs.declared.HeaderRead.TheVariants as H
-use Rattle.script.specs.declared.Checked.{Checked}
-use Rattle.script.specs.declared.Checked.TheVariants as C
+use Rattle.script.specs.declared.BadScript.{BadScript}
+use Rattle.script.specs.declared.ScriptError.{ScriptError}
+use Rattle.script.specs.declared.ScriptError.TheVariants as E
 use Rattle.script.specs.Events.{Events, events, bad_from}
-use Rattle.script.specs.Whole.{most_script_bytes, Header, header, no_header, field_header, header_in, header_at, Script, accepted, bad, with_events, with_header, read_script, reads, bad_at, checked_in, check_script, check_of}
+use Rattle.script.specs.Whole.{most_script_bytes, Header, header, no_header, field_header, header_from, header_in, header_at, Script, accepted, bad, with_events, with_header, read_script, reads, bad_at, checked_in, check_script, check_of}
 use Rattle.script.specs.Parts.{events_from}
-use Rattle.run.specs.declared.Ran.{Ran}
 use Rattle.in_place.specs.FirstEvents.{first_events, after, events_run, first_events_run}
-use Rattle.run.specs.Outcome.{outcome_in, refused_run, run_events, run_script}
-use Rattle.run.specs.Parts.{fewer_of, Refuses, RunsFirst}
+use Rattle.run.specs.Outcome.{RunOutcome, refused_run, run_events, run_script}
+use Rattle.run.specs.Parts.{fewer_of, FirstRun}
 use Rattle.run.proofs.Taken.{taken}
 
 -- ---- how many events
-
-pub fewer-asked : (all most : ℕ) → most < all → most ≡ fewer_of all most
-fewer-asked all most h = rw (lt-ltb most all h)
-
-pub fewer-all : (all most : ℕ) → all ≤ most → all ≡ fewer_of all most
-fewer-all all most h = rw (le-ltb most all h)
 
 -- asking for more than there are is asking for all
 fewer-taken : {A : Type 0} (most : ℕ) (l : List A) → (fewer_of (length l) most ≤ length l) × (take (fewer_of (length l) most) l ≡ take most l)
@@ -45,15 +36,6 @@ fewer-taken most l = go (ltb most (length l)) refl
     go : (t : Bool) → ltb most (length l) ≡ t → (cond t most (length l) ≤ length l) × (take (cond t most (length l)) l ≡ take most l)
     go true p = let h = ltb-true most (length l) p in (omega (arith, h), refl)
     go false p = let h = ltb-false most (length l) p in (omega arith, take_all (length l) l (omega arith) ∙ sym (take_all most l (omega (arith, h))))
-
--- ---- a refused run
-
-pub refuses : (answer : Answer) (place : ℕ) (f : Fresh) → Freshens 1 1 0 f → Refuses answer place (record { answer = answer; place = place; count = 0; drive = f.drive })
-unfolding header_fits
-refuses answer place f p = record { answer-is = refl; place_is = refl; count-is = refl; drive-is = p.drive }
-
-refused-is : (answer : Answer) (place : ℕ) (r : Ran) (answers stops : List ℕ) → Refuses answer place r → outcome_in r answers stops ≡ refused_run (number_of answer) place answers stops
-refused-is answer place r answers stops p = rw (p.answer-is, p.place_is, p.count-is, p.drive-is)
 
 -- ---- the header of a script that reads to its end
 
@@ -66,7 +48,7 @@ pub record Accepted (s : List ℕ) (capacity bands sensors : ℕ) (es : List Eve
 
 -- a header that is told is in range
 head-fits : (s : List ℕ) (o a b c n : ℕ) → header_at s ≡ header o a b c n → header_fits a b c ≡ true
-unfolding header_at
+unfolding header_at header_from
 head-fits s o a b c n h = first (number_at s 0) h
   where
     told : (x y z m : ℕ) (t : Bool) → header_fits x y z ≡ t → cond t (header done x y z m) (no_header bad_script 0) ≡ header o a b c n → header_fits a b c ≡ true
@@ -104,72 +86,66 @@ accepted-is s capacity bands sensors es q = go (ltb most_script_bytes (length s)
     go false (header u a b c n) p q = all u a b c n p (events_from s n) refl q
     go false (no_header u v) p q = let w : ◌≡◌ {A = ℕ} 0 1 = cc in absurd (omega arith)
 
--- ---- the arms of a run of a script that reads to its end
+-- ---- the arms of a run
 
-module _ (s : List ℕ) (count : ℕ) (answers stops : List ℕ) where
-  both : (es : List Event) → (length es ≤ length answers) → (length es ≤ length stops) → (leb (length es) (length answers) && leb (length es) (length stops)) ≡ true
-  both es h k = rw (le-leb (length es) (length answers) h, le-leb (length es) (length stops) k)
-
-  pub short-answers : (r : Ran) → length answers < count → Refuses ShortBuffer 0 r → RunsFirst s count answers stops r answers stops
-  short-answers r h p capacity bands sensors es q k =
-      let n = length-take-le count es k in
-      refused-is ShortBuffer 0 r answers stops p
-      ∙ rw (n, lt-leb count (length answers) h)
-
-  pub short-stops : (r : Ran) → count ≤ length answers → length stops < count → Refuses ShortBuffer 0 r → RunsFirst s count answers stops r answers stops
-  short-stops r j h p capacity bands sensors es q k =
-      let n = length-take-le count es k in
-      refused-is ShortBuffer 0 r answers stops p
-      ∙ rw (n, le-leb count (length answers) j, lt-leb count (length stops) h)
-
-  pub no-header : (h : HeaderRead) (r : Ran) (answers' stops' : List ℕ) → header_in h ≡ header_at s → h ≡ H.Bad → RunsFirst s count answers stops r answers' stops'
-  no-header h r answers' stops' e w capacity bands sensors es q k =
-      let a = accepted-is s capacity bands sensors es q in
-      let n : no_header 10 0 ≡ header a.answer capacity bands sensors a.next = sym (ap header_in w) ∙ e ∙ a.head in
-      let z : ◌≡◌ {A = ℕ} 0 1 = cc in
-      absurd (omega arith)
-
-  pub ran_first : (h : HeaderRead) (x y z at : ℕ) (drive : Drive) (answers' stops' : List ℕ) → count ≤ length answers → count ≤ length stops → header_in h ≡ header_at s
-      → h ≡ H.Is x y z at → after drive answers' stops' ≡ first_events_run s at count (fresh_of x y z) answers stops
-      → RunsFirst s count answers stops (record { answer = Done; place = 0; count = count; drive = drive }) answers' stops'
-  ran_first h x y z at drive answers' stops' i j e w g capacity bands sensors es q k =
-      let a = accepted-is s capacity bands sensors es q in
-      let m : header 0 x y z at ≡ header a.answer capacity bands sensors a.next = sym (ap header_in w) ∙ e ∙ a.head in
-      let ex : x ≡ capacity = cc in
-      let ey : y ≡ bands = cc in
-      let ez : z ≡ sensors = cc in
-      let en : a.next ≡ at = cc in
-      let d : fresh_of x y z ≡ fresh_drive capacity bands sensors = rw (ex, ey, ez, a.fits) in
-      let f : first_events count s at ≡ take count es = taken count s at es (ap (λ (n : ℕ). events_from s n) (sym en) ∙ a.after) in
-      let v : after drive answers' stops' ≡ events_run (fresh_drive capacity bands sensors) (take count es) answers stops = g ∙ rw (le-leb count (length answers) i, le-leb count (length stops) j, d, f) in
-      let n = length-take-le count es k in
-      let b = both (take count es) (omega (arith, n, i)) (omega (arith, n, j)) in
-      let vd : drive ≡ run_of (fresh_drive capacity bands sensors) (take count es) = cc in
-      let va : answers' ≡ over (answers_of (fresh_drive capacity bands sensors) (take count es)) answers = cc in
-      let vs : stops' ≡ over (stops_in (fresh_drive capacity bands sensors) (take count es)) stops = cc in
-      rw (b, vd, va, vs, n)
-
--- ---- the run
-
-module _ (s : List ℕ) (most : ℕ) (answers stops : List ℕ) (k : Checked) (e : checked_in k ≡ check_of s) where
-  pub bad-script : (place : ℕ) (r : Ran) → k ≡ C.BadAt place → Refuses BadScript place r
-      → outcome_in r answers stops ≡ run_script (read_script s) most answers stops
+module _ (s : List ℕ) (most : ℕ) (answers stops : List ℕ) where
+  -- a bad script
+  pub bad_first : (b : BadScript) (error : ScriptError) (r : Result (ℕ × Drive) ScriptError) → r ≡ Err error → error ≡ E.Bad b.place → checked_in (Err b) ≡ check_of s
+      → FirstRun s most answers stops r answers stops
   unfolding check_of
-  bad-script place r q p = refused-is BadScript place r answers stops p ∙ go (read_script s) (sym (ap checked_in q) ∙ e)
+  bad_first b error r w q h = rw (w, q) (go (read_script s) h)
     where
-      go : (o : Script) → bad_at bad_script place ≡ check_script o → refused_run bad_script place answers stops ≡ run_script o most answers stops
-      go (bad x) h = let w : place ≡ x = cc in rw w
+      go : (o : Script) → bad_at bad_script b.place ≡ check_script o → refused_run bad_script b.place answers stops ≡ run_script o most answers stops
+      go (bad x) h = let w : b.place ≡ x = cc in rw w
       go (accepted a b c es) h = let w : ◌≡◌ {A = ℕ} 0 1 = cc in absurd (omega arith)
 
-  pub script-run : (all count : ℕ) (r : Ran) (answers' stops' : List ℕ) → k ≡ C.Reads all → count ≡ fewer_of all most
-      → RunsFirst s count answers stops r answers' stops' → outcome_in r answers' stops' ≡ run_script (read_script s) most answers stops
-  unfolding check_of
-  script-run all count r answers' stops' q c p = go (read_script s) refl (sym (ap checked_in q) ∙ e)
-    where
-      go : (o : Script) → read_script s ≡ o → reads done all ≡ check_script o → outcome_in r answers' stops' ≡ run_script o most answers stops
-      go (bad x) i h = let w : ◌≡◌ {A = ℕ} 0 1 = cc in absurd (omega arith)
-      go (accepted a b n es) i h =
-          let w : all ≡ length es = cc in
-          let f = fewer-taken most es in
-          let m : count ≡ fewer_of (length es) most = rw (c, w) in
-          p a b n es i (omega (arith, m, f.0)) ∙ ap (λ (l : List Event). run_events (fresh_drive a b n) l answers stops) (ap (λ (j : ℕ). take j es) m ∙ f.1)
+  -- a script that reads to its end
+  module _ (all count : ℕ) (e : checked_in (Ok all) ≡ check_of s) (c : count ≡ fewer_of all most) where
+    of-events : (x : RunOutcome) → ((capacity bands sensors : ℕ) (es : List Event) → read_script s ≡ accepted capacity bands sensors es → count ≤ length es
+        → x ≡ run_events (fresh_drive capacity bands sensors) (take count es) answers stops) → x ≡ run_script (read_script s) most answers stops
+    unfolding check_of
+    of-events x p = go (read_script s) refl e
+      where
+        go : (o : Script) → read_script s ≡ o → reads done all ≡ check_script o → x ≡ run_script o most answers stops
+        go (bad y) i h = let w : ◌≡◌ {A = ℕ} 0 1 = cc in absurd (omega arith)
+        go (accepted a b n es) i h =
+            let w : all ≡ length es = cc in
+            let f = fewer-taken most es in
+            let m : count ≡ fewer_of (length es) most = rw (c, w) in
+            p a b n es i (omega (arith, m, f.0)) ∙ ap (λ (l : List Event). run_events (fresh_drive a b n) l answers stops) (ap (λ (j : ℕ). take j es) m ∙ f.1)
+
+    pub short_buffers : (length answers < count) ⊎ ((count ≤ length answers) × (length stops < count)) → FirstRun s most answers stops (Err E.ShortBuffer) answers stops
+    short_buffers (inl h) = of-events _ (λ capacity bands sensors es q k. rw (length-take-le count es k, lt-leb count (length answers) h))
+    short_buffers (inr h) =
+        let h₀ = h.0 in
+        let h₁ = h.1 in
+        of-events _ (λ capacity bands sensors es q k. rw (length-take-le count es k, le-leb count (length answers) h₀, lt-leb count (length stops) h₁))
+
+    pub headless : (t : List ℕ) (p next : ℕ) (h : Option D.Header) (r : Result (ℕ × Drive) ScriptError) → header_in h next ≡ header_from t p → h ≡ None → t ≡ s → p ≡ 0
+        → FirstRun s most answers stops r answers stops
+    unfolding header_at
+    headless t p next w r g e et ep = let h : header_in None next ≡ header_from s 0 = ap (λ (x : Option D.Header). header_in x next) (sym e) ∙ g ∙ ap₂ header_from et ep in of-events _ (λ capacity bands sensors es q k.
+        let a = accepted-is s capacity bands sensors es q in
+        let n : no_header 10 0 ≡ header a.answer capacity bands sensors a.next = h ∙ a.head in
+        let z : ◌≡◌ {A = ℕ} 0 1 = cc in
+        absurd (omega arith))
+
+    pub ran_first : (h : D.Header) (script : List ℕ) (at : ℕ) (t : List ℕ) (p : ℕ) (drive : Drive) (answers' stops' : List ℕ) → count ≤ length answers → count ≤ length stops → header_in (Some h) at ≡ header_from t p → script ≡ t → t ≡ s → p ≡ 0
+        → after drive answers' stops' ≡ first_events_run script at count (fresh_of h.capacity h.bands h.sensors) answers stops
+        → FirstRun s most answers stops (Ok (count, drive)) answers' stops'
+    unfolding header_at
+    ran_first h script at t p drive answers' stops' i j w est et ep g = of-events _ (λ capacity bands sensors es' q k.
+        let a = accepted-is s capacity bands sensors es' q in
+        let m : header 0 h.capacity h.bands h.sensors at ≡ header a.answer capacity bands sensors a.next = w ∙ ap₂ header_from et ep ∙ a.head in
+        let ex : h.capacity ≡ capacity = cc in
+        let ey : h.bands ≡ bands = cc in
+        let ez : h.sensors ≡ sensors = cc in
+        let en : a.next ≡ at = cc in
+        let d : fresh_of h.capacity h.bands h.sensors ≡ fresh_drive capacity bands sensors = rw (ex, ey, ez, a.fits) in
+        let f : first_events count script at ≡ take count es' = ap (λ (l : List ℕ). first_events count l at) (est ∙ et) ∙ taken count s at es' (ap (λ (n : ℕ). events_from s n) (sym en) ∙ a.after) in
+        let v : after drive answers' stops' ≡ events_run (fresh_drive capacity bands sensors) (take count es') answers stops = g ∙ rw (le-leb count (length answers) i, le-leb count (length stops) j, d, f) in
+        let n = length-take-le count es' k in
+        let vd : drive ≡ run_of (fresh_drive capacity bands sensors) (take count es') = cc in
+        let va : answers' ≡ over (answers_of (fresh_drive capacity bands sensors) (take count es')) answers = cc in
+        let vs : stops' ≡ over (stops_in (fresh_drive capacity bands sensors) (take count es')) stops = cc in
+        rw (n, le-leb count (length answers) i, le-leb count (length stops) j, vd, va, vs))

@@ -1,6 +1,5 @@
 -- Condition 3 of a run: what its drive and the answers that it wrote share with every other script, and the history rule.
-use Rattle.std.specs.Prelude.{ℕ, ◌≤◌, ◌<◌, ◌≡◌, ◌↔◌, true, cond, List, [], ◌∷◌, length}
-use Rattle.answer.specs.Numbers.{number_of}
+use Rattle.std.specs.Prelude.{ℕ, ◌≤◌, ◌<◌, ◌≡◌, ◌↔◌, true, cond, List, [], ◌∷◌, length, IsOk}
 use Rattle.band.specs.declared.Side.{Side}
 use Rattle.band.specs.Rows.{locked_on}
 use Rattle.drive.specs.declared.Drive.{Drive}
@@ -22,7 +21,7 @@ own_answers band (e ∷ es) (b ∷ bytes) = cond (own_set band (λ c tokens. tru
 pub record RanWhole (s : List ℕ) (most : ℕ) (r : Ran) (capacity bands sensors : ℕ) (es : List Event) : Type 0 where
   pub reads : read_script s ≡ accepted capacity bands sensors es
   pub all : length es ≤ most
-  pub done : number_of r.answer ≡ 0
+  pub done : IsOk r.events
 
 -- "both runs end with that band's lock columns, expression and value alike, and give the same answers to its Sets, in the same order": this
 -- run's band against what document 01 gives for another list of events
@@ -56,7 +55,7 @@ pub record Condition3OfRun (s : List ℕ) (most : ℕ) (r : Ran) (answers : List
 -- a script that was run whole: a script has at most 32,766 events (`few-events` of crate script), so 65,536 are all of them
 pub record RunWhole (s : List ℕ) (r : Ran) (capacity bands sensors : ℕ) (es : List Event) : Type 0 where
   pub reads : read_script s ≡ accepted capacity bands sensors es
-  pub done : number_of r.answer ≡ 0
+  pub done : IsOk r.events
 
 pub record LikeBands (band : ℕ) (r : RanTwo) (es fs : List Event) (answers answers2 : List ℕ) : Type 0 where
   pub row : row_at r.first.drive band ≡ row_at r.second.drive band

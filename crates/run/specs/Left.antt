@@ -1,19 +1,20 @@
 -- Document 01, 'Script': the drive that a script leaves after its last event.
-use Rattle.std.specs.Prelude.{ℕ}
-use Rattle.answer.specs.Numbers.{number_of}
+use Rattle.std.specs.Prelude.{ℕ, Result, Ok, Err}
 use Rattle.drive.specs.declared.Drive.{Drive}
 use Rattle.drive.specs.State.{fresh_drive}
 use Rattle.drive.specs.Events.{run_of}
 use Rattle.numbers.specs.Groups.{bad_script}
+use Rattle.script.specs.declared.BadScript.{BadScript}
 use Rattle.script.specs.Whole.{Script, accepted, bad}
-use Rattle.run.specs.declared.LeftDrive.{LeftDrive}
 
 -- answer, place and drive
 pub data LeftOutcome : Type 0 where
   leaves : (answer place : ℕ) (drive : Drive) → LeftOutcome
 
-abbrev pub left_in : LeftDrive → LeftOutcome
-left_in r = leaves (number_of r.answer) r.place r.drive
+-- done with the drive; or bad script, of which there is no drive but that of a refused header
+abbrev pub left_in : Result Drive BadScript → LeftOutcome
+left_in (Ok drive) = leaves 0 0 drive
+left_in (Err b) = leaves 10 b.place (fresh_drive 1 1 0)
 
 -- every event of the script, from the fresh drive of its header; or 10 "bad script" with its place, and the drive of a refused header
 abbrev pub left_by : Script → LeftOutcome

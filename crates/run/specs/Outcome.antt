@@ -1,11 +1,12 @@
 -- Document 01, 'Script': what a run of the first events of a script hands back and writes.
-use Rattle.std.specs.Prelude.{ℕ, cond, ◌&&◌, List, leb, length, take}
+use Rattle.std.specs.Prelude.{ℕ, cond, ◌&&◌, List, leb, length, take, Result, Ok, Err}
 use Rattle.base.specs.Spliced.{over}
-use Rattle.answer.specs.Numbers.{number_of}
 use Rattle.drive.specs.declared.Drive.{Drive}
 use Rattle.drive.specs.State.{fresh_drive}
 use Rattle.drive.specs.Events.{Event, run_of, answers_of, stops_in}
 use Rattle.numbers.specs.Groups.{bad_script}
+use Rattle.script.specs.declared.ScriptError.{ScriptError}
+use Rattle.script.specs.Errors.{error_number, error_place}
 use Rattle.script.specs.Whole.{Script, accepted, bad}
 use Rattle.run.specs.declared.Ran.{Ran}
 
@@ -14,8 +15,13 @@ use Rattle.run.specs.declared.Ran.{Ran}
 pub data RunOutcome : Type 0 where
   outcome : (answer place count : ℕ) (drive : Drive) (answers stops : List ℕ) → RunOutcome
 
+-- done with the number of events run and place 0, or an error's number and place, with no event run
+abbrev pub outcome_by : Result ℕ ScriptError → Drive → List ℕ → List ℕ → RunOutcome
+outcome_by (Ok count) drive answers stops = outcome 0 0 count drive answers stops
+outcome_by (Err error) drive answers stops = outcome (error_number error) (error_place error) 0 drive answers stops
+
 abbrev pub outcome_in : Ran → List ℕ → List ℕ → RunOutcome
-outcome_in r answers stops = outcome (number_of r.answer) r.place r.count r.drive answers stops
+outcome_in r answers stops = outcome_by r.events r.drive answers stops
 
 -- a refusal: "with the drive and lent memory unchanged", and no event run; the drive is that of a refused header
 abbrev pub refused_run : ℕ → ℕ → List ℕ → List ℕ → RunOutcome

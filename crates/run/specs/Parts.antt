@@ -1,23 +1,23 @@
 -- What the parts of the run do, for the contracts of private functions.
-use Rattle.std.specs.Prelude.{ℕ, ◌≤◌, ◌≡◌, cond, List, ltb, length, take}
-use Rattle.answer.specs.declared.Answer.{Answer}
+use Rattle.std.specs.Prelude.{ℕ, ◌≡◌, cond, List, ltb, Result, Ok, Err}
+use Rattle.drive.specs.declared.Drive.{Drive}
 use Rattle.drive.specs.State.{fresh_drive}
-use Rattle.drive.specs.Events.{Event}
-use Rattle.script.specs.Whole.{accepted, read_script}
+use Rattle.script.specs.Whole.{read_script}
+use Rattle.script.specs.declared.ScriptError.{ScriptError}
 use Rattle.run.specs.declared.Ran.{Ran}
-use Rattle.run.specs.Outcome.{outcome_in, run_events}
+use Rattle.run.specs.Outcome.{outcome_in, run_script}
 
 abbrev pub fewer_of : ℕ → ℕ → ℕ
 fewer_of all most = cond (ltb most all) most all
 
-pub record Refuses (answer : Answer) (place : ℕ) (r : Ran) : Type 0 where
-  pub answer-is : r.answer ≡ answer
-  pub place_is : r.place ≡ place
-  pub count-is : r.count ≡ 0
-  pub drive-is : r.drive ≡ fresh_drive 1 1 0
+-- a run that is refused for an error
+abbrev pub refused_in : ScriptError → Ran
+refused_in error = record { events = Err error; drive = fresh_drive 1 1 0 }
 
--- what is said of a script that reads to its end and has so many events
-abbrev pub RunsFirst : List ℕ → ℕ → List ℕ → List ℕ → Ran → List ℕ → List ℕ → Type 0
-RunsFirst s count answers stops r answers' stops' =
-    (capacity bands sensors : ℕ) (es : List Event) → read_script s ≡ accepted capacity bands sensors es → count ≤ length es
-    → outcome_in r answers' stops' ≡ run_events (fresh_drive capacity bands sensors) (take count es) answers stops
+-- what a run comes to, from how many events are run and the drive that they leave, or from an error
+abbrev pub ran_in : Result (ℕ × Drive) ScriptError → Ran
+ran_in (Ok r) = record { events = Ok r.0; drive = r.1 }
+ran_in (Err error) = refused_in error
+
+abbrev pub FirstRun : List ℕ → ℕ → List ℕ → List ℕ → Result (ℕ × Drive) ScriptError → List ℕ → List ℕ → Type 0
+FirstRun s most answers stops r answers' stops' = outcome_in (ran_in r) answers' stops' ≡ run_script (read_script s) most answers stops

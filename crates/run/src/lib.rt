@@ -1,114 +1,105 @@
-// The run of a script (document 01, 'Script'): the events of a script, one after the other, from the fresh drive of its header.
+//! The run of a script: its events, one after the other, from the fresh drive of its header.
 #![tactic(auto)]
 
-ghost use Rattle.std.specs.Prelude.{◌≡◌, ◌≤◌, length};
+ghost use Rattle.std.specs.Prelude.{◌≡◌, ◌≤◌, length, IfOk};
 ghost use Rattle.script.specs.Whole.{most_events, most_script_bytes, read_script};
 ghost use Rattle.reached.specs.Reached.{Reached};
 ghost use Rattle.run.specs.Condition3.{Condition3OfRun, Condition3OfTwo};
 ghost use Rattle.run.specs.Outcome.{outcome_in, run_script};
 ghost use Rattle.run.specs.Left.{left_in, left_by};
 ghost use Rattle.run.specs.Reached.{RunReaches};
-ghost use Rattle.run.specs.Parts.{fewer_of, Refuses, RunsFirst};
+ghost use Rattle.run.specs.Parts.{fewer_of, FirstRun, refused_in};
 
-use answer::Answer;
-use drive::Drive;
-use script::{Checked, HeaderRead};
+use drive::{Drive, Header};
+use reader::Reader;
+use script::{BadScript, ScriptError};
 
-// As many events as a script may have bytes: so many are all of them.
+/// As many events as a script may have bytes: so many are all of them.
 pub const WHOLE: u64 = script::MOST_BYTES as u64;
 
-// The most events of a script: each takes two bytes at least, after a header of three.
+/// The most events of a script: each takes two bytes at least, after a header of three.
 pub const MOST_EVENTS: usize = 32_766;
 
-// What a run hands back: the place is that of a bad script, else 0; the count is that of the events run.
+/// What a run hands back: how many events were run, or why none was; and the drive that they left, or that of a refused header.
+// stays: (1) a drive outside the Result: refused_drive_of_two_blocks and RunReaches speak of a refused run's drive too
 #[derive(Clone, Copy)]
 pub struct Ran {
-    pub answer: Answer,
-    pub place: usize,
-    pub count: usize,
+    pub events: Result<usize, ScriptError>,
     pub drive: Drive,
 }
 
-// What two runs hand back.
+/// What two runs hand back.
 #[derive(Clone, Copy)]
 pub struct RanTwo {
     pub first: Ran,
     pub second: Ran,
 }
 
-// The drive that a script leaves after its last event: the place is that of a bad script, else 0.
-#[derive(Clone, Copy)]
-pub struct LeftDrive {
-    pub answer: Answer,
-    pub place: usize,
-    pub drive: Drive,
-}
-
-// How many events to run: those asked for, or all where there are fewer.
+/// How many events to run: those asked for, or all where there are fewer.
 fn fewer(all: usize, most: u64) -> usize
     ensures { result ≡ fewer_of all most }
 {
-    if most < (all as u64) {
-        return most as usize;
-    }
-    all
+    usize::try_from(most).unwrap_or(all).min(all)
 }
 
-// A run that is refused: no event is run.
-fn refused(answer: Answer, place: usize) -> Ran
-    ensures { Refuses answer place result }
+#[tactic(auto, unfolding(drive::specs::State::header_fits))]
+/// A run that is refused: no event is run.
+fn refused(error: ScriptError) -> Ran
+    ensures { result ≡ refused_in error }
 {
-    let made = Drive::fresh(1, 1, 0);
-    let drive = made.drive;
-    Ran {
-        answer,
-        place,
-        count: 0,
-        drive,
-    }
-}
-
-// Runs so many events of a script that reads to its end.
-fn run_first(script: &[u8], count: usize, answers: &mut [u8], stops: &mut [u8]) -> Ran
-    ensures { RunsFirst script.now count answers.old stops.old result answers.new stops.new }
-{
-    if answers.len() < count {
-        return refused(Answer::ShortBuffer, 0);
-    }
-    if stops.len() < count {
-        return refused(Answer::ShortBuffer, 0);
-    }
-    let HeaderRead::Is {
-        capacity,
-        bands,
-        sensors,
-        next: at,
-    } = script::header_at(script)
-    else {
-        return refused(Answer::BadScript, 0);
+    let header = Header {
+        capacity: 1,
+        bands: 1,
+        sensors: 0,
     };
-    let drive = in_place::run_events(script, at, count, capacity, bands, sensors, answers, stops);
+    let made = Drive::fresh(header);
     Ran {
-        answer: Answer::Done,
-        place: 0,
-        count,
-        drive,
+        events: Err(error),
+        drive: made.drive,
     }
 }
 
-// Runs the first events of a script, at most so many, and writes the answer and the stops of each into the two buffers.
+#[tactic(auto, using(crate::proofs::Whole::bad_first, crate::proofs::Whole::short_buffers))]
+/// Runs the first events of a script, at most so many: how many they are, and the drive that they leave. An error leaves the buffers as they were.
+fn run_first(
+    script: &[u8],
+    most: u64,
+    answers: &mut [u8],
+    stops: &mut [u8],
+) -> Result<(usize, Drive), ScriptError>
+    ensures { FirstRun script.now most answers.old stops.old result answers.new stops.new }
+{
+    let all = script::check(script)?;
+    let count = fewer(all, most);
+    if answers.len() < count || stops.len() < count {
+        return Err(ScriptError::ShortBuffer);
+    }
+    let mut reader = Reader::new(script, 0);
+    let Some(header) = script::header(&mut reader) else {
+        return Err(ScriptError::Bad { place: 0 });
+    };
+    let drive = in_place::run_events(reader, count, header, answers, stops);
+    Ok((count, drive))
+}
+
+#[tactic(auto, using(crate::proofs::Holding::holds))]
+/// Runs the first events of a script, at most so many, and writes the answer and the stops of each into the two buffers. A run that is refused
+/// leaves them as they were.
 pub fn run(script: &[u8], most: u64, answers: &mut [u8], stops: &mut [u8]) -> Ran
     ensures stops_after { outcome_in result answers.new stops.new ≡ run_script (read_script script.now) most answers.old stops.old }
     ensures condition { Condition3OfRun script.now most result answers.new }
     ensures reached { RunReaches result }
 {
-    match script::check(script) {
-        Checked::Reads(all) => run_first(script, fewer(all, most), answers, stops),
-        Checked::BadAt(place) => refused(Answer::BadScript, place),
+    match run_first(script, most, answers, stops) {
+        Ok((count, drive)) => Ran {
+            events: Ok(count),
+            drive,
+        },
+        Err(error) => refused(error),
     }
 }
 
-// Runs two scripts whole, each into its own buffers.
+/// Runs two scripts whole, each into its own buffers.
 pub fn run_two(
     first: &[u8],
     second: &[u8],
@@ -130,26 +121,26 @@ pub fn run_two(
     }
 }
 
-// Runs a script whole by way of lent memory, a byte for each of its events in two buffers, and hands its drive over.
-fn left_by(script: &[u8], answers: &mut [u8], stops: &mut [u8]) -> LeftDrive
+/// Runs a script whole by way of lent memory, a byte for each of its events in two buffers, and hands its drive over.
+fn left_by(script: &[u8], answers: &mut [u8], stops: &mut [u8]) -> Result<Drive, BadScript>
     requires { (most_events ≤ length answers.old) × (most_events ≤ length stops.old) }
     ensures result_value { left_in result ≡ left_by (read_script script.now) }
-    ensures reached { Reached result.drive }
+    ensures reached { IfOk result Reached }
 {
     let ran = run(script, WHOLE, answers, stops);
-    let answer = ran.answer;
-    let drive = ran.drive;
-    LeftDrive {
-        answer,
-        place: ran.place,
-        drive,
+    match ran.events {
+        Ok(_) => Ok(ran.drive),
+        // of the two errors only the first is met: the buffers are long enough
+        Err(error) => Err(BadScript {
+            place: error.place(),
+        }),
     }
 }
 
-// Runs a script whole and hands its drive over.
-pub fn left(script: &[u8]) -> LeftDrive
+/// Runs a script whole and hands over the drive that its last event leaves; or the place of what is bad.
+pub fn left(script: &[u8]) -> Result<Drive, BadScript>
     ensures result_value { left_in result ≡ left_by (read_script script.now) }
-    ensures reached { Reached result.drive }
+    ensures reached { IfOk result Reached }
 {
     let mut answers = [0; MOST_EVENTS];
     let mut stops = [0; MOST_EVENTS];

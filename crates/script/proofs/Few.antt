@@ -13,7 +13,7 @@ use Rattle.drive.specs.State.{header_fits}
 use Rattle.drive.specs.Events.{Event}
 use Rattle.event_reader.specs.Fields.{Parsed, event, broken, event_at}
 use Rattle.script.specs.Events.{Events, events, bad_from, before, and_then}
-use Rattle.script.specs.Whole.{most_script_bytes, most_events, Header, header, no_header, field_header, header_at, accepted, bad, with_events, with_header, read_script}
+use Rattle.script.specs.Whole.{most_script_bytes, most_events, Header, header, no_header, field_header, header_from, header_at, accepted, bad, with_events, with_header, read_script}
 use Rattle.script.specs.Parts.{events_in, events_from}
 use Rattle.event_reader.proofs.Bounds.{NumberIn, number-at}
 use Rattle.event_reader.proofs.Progress.{event-within}
@@ -40,7 +40,7 @@ few-from (suc k) s at es l h = go (λ n fs. few-from k s n fs) (ltb at (length s
 
 -- a header: three numbers, within the script
 header-within : (s : List ℕ) (o a b c n : ℕ) → header_at s ≡ header o a b c n → (3 ≤ n) × (n ≤ length s)
-unfolding header_at
+unfolding header_at header_from
 header-within s o a b c n h = first (number_at s 0) (number-at s 0) h
   where
     told : (x y z m : ℕ) (t : Bool) → (3 ≤ m) × (m ≤ length s) → cond t (header done x y z m) (no_header bad_script 0) ≡ header o a b c n → (3 ≤ n) × (n ≤ length s)
@@ -72,7 +72,7 @@ field-start (found answer v n) k h = h v n
 field-start (none answer) k h = refl
 
 pub header-start : (s : List ℕ) → AtStart (header_at s)
-unfolding header_at
+unfolding header_at header_from
 header-start s =
     field-start (number_at s 0) _ (λ a l. field-start (number_at s l) _ (λ b m. field-start (number_at s m) _ (λ c n.
     cond_both AtStart (header_fits a b c) (header done a b c n) (no_header bad_script 0) tt refl)))

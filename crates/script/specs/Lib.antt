@@ -1,3 +1,4 @@
+pub mod Errors
 pub mod Events
 pub mod Whole
 pub mod Parts

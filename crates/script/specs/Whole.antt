@@ -1,15 +1,12 @@
 -- Document 01, 'Script': a script as a whole, its header and its events, or the place of what is bad.
-use Rattle.std.specs.Prelude.{ℕ, ◌≡◌, cond, List, [], ltb, length}
+use Rattle.std.specs.Prelude.{ℕ, ◌≡◌, cond, List, [], ltb, length, Option, Some, None, Result, Ok, Err}
 use Rattle.numbers.specs.Groups.{done, bad_script, Found, onward, number_at}
 use Rattle.drive.specs.State.{header_fits}
 use Rattle.drive.specs.Events.{Event}
 use Rattle.event_reader.specs.Fields.{event_at}
 use Rattle.script.specs.Events.{Events, events, bad_from, and_then}
 use Rattle.script.specs.Parts.{events_from}
-use Rattle.script.specs.declared.HeaderRead.{HeaderRead}
-use Rattle.script.specs.declared.HeaderRead.TheVariants as H
-use Rattle.script.specs.declared.Checked.{Checked}
-use Rattle.script.specs.declared.Checked.TheVariants as C
+use Rattle.script.specs.declared.BadScript.{BadScript}
 
 -- "Header: capacity, bands, sensors.": done, with these and the place after them; or bad script with its place, where the header does not read
 -- or is out of range: "0 for the header"
@@ -20,17 +17,21 @@ pub data Header : Type 0 where
 abbrev pub field_header : Found → (ℕ → ℕ → Header) → Header
 field_header f follow = onward (λ answer. no_header answer 0) f follow
 
-unfoldable pub header_at : List ℕ → Header
-header_at s =
-    field_header (number_at s 0) (λ capacity at.
+unfoldable pub header_from : List ℕ → ℕ → Header
+header_from s at =
+    field_header (number_at s at) (λ capacity at.
     field_header (number_at s at) (λ bands at.
     field_header (number_at s at) (λ sensors at.
     cond (header_fits capacity bands sensors) (header done capacity bands sensors at) (no_header bad_script 0))))
 
--- the code's cases by the paper's numbers
-abbrev pub header_in : HeaderRead → Header
-header_in (H.Is capacity bands sensors next) = header 0 capacity bands sensors next
-header_in H.Bad = no_header 10 0
+-- a script begins with its header
+unfoldable pub header_at : List ℕ → Header
+header_at s = header_from s 0
+
+-- the code's cases by the paper's numbers, with the place that the reader has then
+abbrev pub header_in : Option Rattle.drive.specs.declared.Header.Header → ℕ → Header
+header_in (Some h) next = header 0 h.capacity h.bands h.sensors next
+header_in None next = no_header 10 0
 
 -- The events from a place on are those that read one after the other up to the script's end: this equation determines them, since each
 -- event takes at least one byte (`reads_on` in proofs/Checking).
@@ -67,9 +68,9 @@ pub data Check : Type 0 where
   bad_at : (answer place : ℕ) → Check
 
 -- the code's cases by the paper's numbers
-abbrev pub checked_in : Checked → Check
-checked_in (C.Reads count) = reads 0 count
-checked_in (C.BadAt place) = bad_at 10 place
+abbrev pub checked_in : Result ℕ BadScript → Check
+checked_in (Ok count) = reads 0 count
+checked_in (Err b) = bad_at 10 b.place
 
 abbrev pub check_events : Events → Check
 check_events (events es) = reads done (length es)

@@ -10,7 +10,7 @@ use lib.Seq.{drop-drop, length-take-le, take-append_seam}
 use borrow.Author.Tests.{leb-true, le-leb, ltb-true, lt-ltb, eqb-true}
 use Rattle.base.specs.Lists.{Bytes}
 use Rattle.base.specs.Columns.{named}
-use Rattle.base.proofs.Cases.{cond_either, and_left, and_right}
+use Rattle.base.proofs.Cases.{cond-true, cond_either, and_left, and_right}
 use Rattle.numbers.specs.Groups.{done, bad_script, Found, found, none, onward, number_at}
 use Rattle.sensor_set.specs.Columns.{sensor_masks}
 use Rattle.token_reader.specs.Read.{most_token_bytes}
@@ -48,7 +48,6 @@ use Rattle.event_reader.specs.Fields.{
   event_at,
 }
 use Rattle.event_reader.proofs.Bounds.{NumberIn, number-here}
-use Rattle.event_reader.proofs.Chains.{three_at, tokens-part}
 use Rattle.event_form.specs.Form.{Form, plain, form_of, numbers_bytes, values_bytes, values_fit, event_bytes, holdable, fields_of, Words}
 use Rattle.script_form.proofs.Stands.{
   Stands,
@@ -66,6 +65,19 @@ use Rattle.script_form.proofs.Stands.{
   values-stand,
   values-read,
 }
+
+-- three numbers, and what they and the place after them go on to
+abbrev three_at : List ℕ → ℕ → (ℕ → ℕ → ℕ → ℕ → Parsed) → Parsed
+three_at s at follow =
+    field (number_at s at) (λ a at. field (number_at s at) (λ b at. field (number_at s at) (λ c at. follow a b c at)))
+
+-- the part of the script that holds an expression's bytes
+tokens-part : (s : List ℕ) (start count : ℕ) → start ≤ length s → count ≤ length s - start
+    → take (start + count - start) (drop start s) ≡ tokens_at s start count
+tokens-part s start count h k =
+    let e : start + count - start ≡ count = omega arith in
+    ap (λ (n : ℕ). take n (drop start s)) e
+    ∙ cond-true (leb start (length s)) _ _ _ (le-leb start (length s) h) (cond-true (leb count (length s - start)) _ _ _ (le-leb count (length s - start) k) refl)
 
 -- ---- a form at a place
 

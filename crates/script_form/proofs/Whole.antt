@@ -16,7 +16,7 @@ use Rattle.event_reader.specs.Fields.{Parsed, event, broken, event_at}
 use Rattle.event_reader.proofs.Progress.{event-within}
 use Rattle.script.specs.Events.{Events, events, bad_from, before, and_then}
 use Rattle.script.specs.Parts.{events_in, events_from}
-use Rattle.script.specs.Whole.{most_script_bytes, Header, header, no_header, field_header, header_at, Script, accepted, bad, with_events, with_header, read_script}
+use Rattle.script.specs.Whole.{most_script_bytes, Header, header, no_header, field_header, header_from, header_at, Script, accepted, bad, with_events, with_header, read_script}
 use Rattle.script.proofs.Checking.{reads_on}
 use Rattle.event_form.specs.Form.{numbers_bytes, event_bytes, holdable, Words}
 use Rattle.script_form.specs.Written.{events_bytes, script_bytes, all_holdable, AllWords, Holds, ScriptForm}
@@ -84,7 +84,7 @@ on-header : (s : List ℕ) (at : ℕ) (k : ℕ → ℕ → Header) → ((v n : �
 on-header s at k go = on-found (Heads s) (λ a. no_header a 0) (λ a. tt) (number_at s at) k (λ a v n h. go v n (done-number s at a v n h))
 
 header-heads : (s : List ℕ) → Heads s (header_at s)
-unfolding header_at
+unfolding header_at header_from
 header-heads s =
     on-header s 0 _ (λ u a p. on-header s a _ (λ v b q. on-header s b _ (λ w c r.
     cond_either (Heads s) (header_fits u v w) (header done u v w c) (no_header bad_script 0) (λ t. ((a, p, (b, q, (c, r, refl))), t)) (λ t. tt))))
@@ -92,7 +92,7 @@ header-heads s =
 -- three numbers in their ranges are a header
 header-reads : (s : List ℕ) (capacity bands sensors n : ℕ) → Reads s 0 (capacity ∷ bands ∷ sensors ∷ []) n → header_fits capacity bands sensors ≡ true
     → header_at s ≡ header done capacity bands sensors n
-unfolding header_at
+unfolding header_at header_from
 header-reads s capacity bands sensors n r f = rw (r.1, r.2.1, r.2.2.1, f, r.2.2.2)
 
 -- they are below 2^64

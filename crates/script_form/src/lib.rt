@@ -1,3 +1,3 @@
-// Theorems about scripts, written and read. There is no code here.
+//! Theorems about scripts, written and read. There is no code here.
 
 #![tactic(auto)]

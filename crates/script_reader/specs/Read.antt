@@ -1,23 +1,24 @@
 -- Document 02, #106, the other way: the header of an accepted script, and the flat form of its events.
-use Rattle.std.specs.Prelude.{◌≡◌, ℕ, ◌≤◌, Bool, false, cond, ◌||◌, List, ltb, length, take}
+use Rattle.std.specs.Prelude.{◌≡◌, ℕ, ◌≤◌, Bool, false, cond, ◌||◌, List, ltb, length, take, Result, Ok, Err}
 use Rattle.base.specs.Lists.{Bytes}
 use Rattle.base.specs.Spliced.{over}
-use Rattle.answer.specs.Numbers.{number_of}
 use Rattle.numbers.specs.Groups.{done, bad_script}
 use Rattle.drive.specs.Events.{Event}
 use Rattle.event_form.specs.Parts.{flat, events_of}
 use Rattle.event_form.specs.Flat.{all_fields, all_tokens}
+use Rattle.script.specs.declared.ScriptError.{ScriptError}
+use Rattle.script.specs.Errors.{error_number, error_place}
 use Rattle.script.specs.Whole.{Script, accepted, bad, read_script}
 use Rattle.script_form.specs.Written.{script_bytes}
-use Rattle.script_reader.specs.declared.ScriptRead.{ScriptRead}
+use Rattle.script_reader.specs.declared.FlatScript.{FlatScript}
 
 -- what is told: the answer, the place of a bad script, the header, how many numbers and bytes the flat form has, and both lent slices
 pub data ReadTold : Type 0 where
   read_to : (answer place capacity bands sensors field_count token_count : ℕ) (fields tokens : List ℕ) → ReadTold
 
-abbrev pub read_in : ScriptRead → (fields tokens : List ℕ) → ReadTold
-read_in r fields tokens =
-    read_to (number_of r.answer) r.place r.capacity r.bands r.sensors r.field_count r.token_count fields tokens
+abbrev pub read_in : Result FlatScript ScriptError → (fields tokens : List ℕ) → ReadTold
+read_in (Ok s) fields tokens = read_to 0 0 s.header.capacity s.header.bands s.header.sensors s.fields s.tokens fields tokens
+read_in (Err error) fields tokens = read_to (error_number error) (error_place error) 0 0 0 0 0 fields tokens
 
 -- a refusal hands nothing over, and leaves both slices as they were
 abbrev pub refused_read : (answer place : ℕ) → (fields tokens : List ℕ) → ReadTold
@@ -54,6 +55,7 @@ pub record ComesOutOf (capacity bands sensors : ℕ) (fields tokens script : Lis
   pub form : events_of fields tokens ≡ flat events
   pub again : script_bytes capacity bands sensors events ≡ script
 
-abbrev pub WrittenAgain : (script : List ℕ) → ScriptRead → (fields tokens : List ℕ) → Type 0
-WrittenAgain script r fields tokens = number_of r.answer ≡ 0
-    → ComesOutOf r.capacity r.bands r.sensors (take r.field_count fields) (take r.token_count tokens) script
+abbrev pub WrittenAgain : (script : List ℕ) → Result FlatScript ScriptError → (fields tokens : List ℕ) → Type 0
+WrittenAgain script (Ok s) fields tokens =
+    ComesOutOf s.header.capacity s.header.bands s.header.sensors (take s.fields fields) (take s.tokens tokens) script
+WrittenAgain script (Err error) fields tokens = Unit {0}

@@ -1,129 +1,107 @@
-// An accepted script's header and the flat form of its events (document 02, #106).
+//! An accepted script's header and the flat form of its events.
 #![tactic(auto)]
 
-ghost use Rattle.std.specs.Prelude.{◌≡◌, ◌≤◌, length};
+ghost use Rattle.std.specs.Prelude.{◌≡◌, ◌≤◌, ◌&&◌, leb, length};
+ghost use Rattle.drive.specs.Events.{event_in};
+ghost use Rattle.event_form.specs.Form;
 ghost use Rattle.script.specs.Parts.{events_from};
 ghost use Rattle.script.specs.Whole.{read_script};
 ghost use Rattle.script_reader.specs.Read.{read_in, flat_told, WrittenAgain};
-ghost use Rattle.script_reader.specs.Parts.{refusal, Flattens, Measures};
+ghost use Rattle.script_reader.specs.Parts.{Flattens, Measures};
 
-use answer::Answer;
-use event_reader::EventRead;
-use script::HeaderRead;
+use drive::{Event, Header};
+use reader::Reader;
+use script::{BadScript, ScriptError};
 
-// What a script reads to: its header, and how many numbers and bytes the flat form of its events has; or the place of what is bad in it.
-#[derive(Clone, Copy)]
-pub struct ScriptRead {
-    pub answer: Answer,
-    pub place: usize,
-    pub capacity: u64,
-    pub bands: u64,
-    pub sensors: u64,
-    pub field_count: usize,
-    pub token_count: usize,
+/// What a script reads to.
+#[derive(Clone, Copy, Debug, PartialEq, Eq)]
+pub struct FlatScript {
+    pub header: Header,
+    /// how many numbers the flat form of the events has
+    pub fields: usize,
+    /// how many bytes the expressions of the events have
+    pub tokens: usize,
 }
 
-// How many numbers and bytes the flat form of events has, or the place of one that does not read.
+// How many numbers and bytes the flat form of events has.
 #[derive(Clone, Copy)]
-pub enum Flattened {
-    Is(usize, usize),
-    BadAt(usize),
+struct FlatLength {
+    fields: usize,
+    tokens: usize,
 }
 
-fn refused(answer: Answer, place: usize) -> ScriptRead
-    ensures { result ≡ refusal answer place }
-{
-    ScriptRead {
-        answer,
-        place,
-        capacity: 0,
-        bands: 0,
-        sensors: 0,
-        field_count: 0,
-        token_count: 0,
+impl FlatLength {
+    // Whether both slices have room for so many.
+    fn fits(self, fields: &[u64], tokens: &[u8]) -> bool
+        ensures { result ≡ (leb self.fields (length fields.now) && leb self.tokens (length tokens.now)) }
+    {
+        self.fields <= fields.len() && self.tokens <= tokens.len()
     }
 }
 
-// The flat form of the events from a place on, from the start of both slices; each slice has it only where it is long enough.
-fn flatten(script: &[u8], start: usize, fields: &mut [u64], tokens: &mut [u8]) -> Flattened
-    requires { length script.now ≤ 65536 }
-    ensures { Flattens (events_from script.now start) result fields.old tokens.old fields.new tokens.new }
+// The bytes of an event's expression; none where it is no band Set.
+fn tokens_of(event: Event<'_>) -> &[u8]
+    ensures { result.now ≡ Form.tokens_of (event_in event.entry) }
 {
-    let mut at = start;
-    let mut field_count: usize = 0;
-    let mut token_count: usize = 0;
-    while at < script.len() {
-        let EventRead::Is {
-            kind,
-            start: first,
-            count,
-            next,
-        } = event_reader::event_at(script, at)
-        else {
-            return Flattened::BadAt(at);
-        };
-        let event = event_form::numbers_of(kind, count);
-        let numbers = event.numbers;
-        let width = event.width;
-        output::put_numbers(fields, field_count, &numbers[..width]);
-        output::put(
-            tokens,
-            token_count,
-            event_reader::tokens_at(script, first, count),
-        );
-        at = next;
-        field_count += width;
-        token_count += count;
+    match event {
+        Event::BandSet { tokens, .. } => tokens,
+        _ => &[],
     }
-    Flattened::Is(field_count, token_count)
 }
 
-// How long the flat form of the events from a place on is: two slices of one element are lent, and not looked at.
-fn measure(script: &[u8], start: usize) -> Flattened
-    requires { length script.now ≤ 65536 }
-    ensures { Measures (events_from script.now start) result }
+// The flat form of the events from the reader's place on, from the start of both slices; each slice has it only where it is long enough.
+fn flatten(
+    mut reader: Reader<'_>,
+    fields: &mut [u64],
+    tokens: &mut [u8],
+) -> Result<FlatLength, BadScript>
+    requires { length reader.script.now ≤ 65536 }
+    ensures { Flattens (events_from reader.entry.script.now reader.entry.at) result fields.old tokens.old fields.new tokens.new }
 {
-    let mut fields = [0; 1];
-    let mut tokens = [0; 1];
-    flatten(script, start, &mut fields, &mut tokens)
+    let mut length = FlatLength {
+        fields: 0,
+        tokens: 0,
+    };
+    while !reader.is_at_end() {
+        let place = reader.at;
+        let event = event_reader::event(&mut reader).ok_or(BadScript { place })?;
+        let numbers = event_form::numbers_of(event);
+        let expression = tokens_of(event);
+        output::put(fields, length.fields, &numbers.numbers[..numbers.width]);
+        output::put(tokens, length.tokens, expression);
+        length.fields += numbers.width;
+        length.tokens += expression.len();
+    }
+    Ok(length)
 }
 
-// The header of a script, and the flat form of its events from the start of both slices. A refusal leaves them as they were.
-pub fn read(script: &[u8], fields: &mut [u64], tokens: &mut [u8]) -> ScriptRead
+// How long the flat form of the events from the reader's place on is: two empty slices are lent.
+fn measure(reader: Reader<'_>) -> Result<FlatLength, BadScript>
+    requires { length reader.script.now ≤ 65536 }
+    ensures { Measures (events_from reader.entry.script.now reader.entry.at) result }
+{
+    flatten(reader, &mut [], &mut [])
+}
+
+/// The header of a script, and the flat form of its events from the start of both slices. A bad script is answered with its place, and then a short buffer
+/// where a slice is too short. A refusal leaves both as they were.
+pub fn read(script: &[u8], fields: &mut [u64], tokens: &mut [u8]) -> Result<FlatScript, ScriptError>
     ensures tokens_after { read_in result fields.new tokens.new ≡ flat_told (read_script script.now) fields.old tokens.old }
     ensures again { WrittenAgain script.now result fields.new tokens.new }
 {
     if script::MOST_BYTES < script.len() {
-        return refused(Answer::BadScript, 0);
+        return Err(ScriptError::Bad { place: 0 });
     }
-    let HeaderRead::Is {
-        capacity,
-        bands,
-        sensors,
-        next,
-    } = script::header_at(script)
-    else {
-        return refused(Answer::BadScript, 0);
-    };
-    match measure(script, next) {
-        Flattened::Is(field_count, token_count) => {
-            if fields.len() < field_count {
-                return refused(Answer::ShortBuffer, 0);
-            }
-            if tokens.len() < token_count {
-                return refused(Answer::ShortBuffer, 0);
-            }
-            flatten(script, next, fields, tokens);
-            ScriptRead {
-                answer: Answer::Done,
-                place: 0,
-                capacity,
-                bands,
-                sensors,
-                field_count,
-                token_count,
-            }
-        }
-        Flattened::BadAt(place) => refused(Answer::BadScript, place),
+    let mut reader = Reader::new(script, 0);
+    let header = script::header(&mut reader).ok_or(ScriptError::Bad { place: 0 })?;
+    let length = measure(reader)?;
+    if !length.fits(fields, tokens) {
+        return Err(ScriptError::ShortBuffer);
     }
+    flatten(reader, fields, tokens)?;
+    Ok(FlatScript {
+        header,
+        fields: length.fields,
+        tokens: length.tokens,
+    })
 }

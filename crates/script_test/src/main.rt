@@ -6,13 +6,11 @@
 
 ghost use Rattle.std.specs.Prelude.{◌≤◌, ◌<◌, ◌≡◌, length};
 
-use answer::Answer;
-use output::Written;
-use script_reader::ScriptRead;
+use cases::BLANK;
+use drive::Header;
+use script_reader::FlatScript;
 
-// What an output holds before a call.
-const BLANK: u8 = 0xEE;
-
+// What a slice of numbers holds before a call.
 const BLANK_FIELD: u64 = 0xEEEE;
 
 // More bytes and more fields than are written where not said otherwise.
@@ -39,52 +37,22 @@ const WORKED_FIELDS: [u64; 45] = [
 
 const WORKED_TOKENS: [u8; 14] = *b"\xF0\xF2\xA4\x00\x00\x0C\x0E\xA4\x00\x00\x00\x00\xF3\xF1";
 
-#[derive(Clone, Copy)]
-struct Header {
-    capacity: u64,
-    bands: u64,
-    sensors: u64,
-}
-
-fn usual() -> Header {
-    Header {
-        capacity: 1_000,
-        bands: 2,
-        sensors: 1,
-    }
-}
+const USUAL: Header = Header {
+    capacity: 1_000,
+    bands: 2,
+    sensors: 1,
+};
 
 // What is printed is held to the file stdout, which also shows a write that failed.
-fn print(rt: &impl Print, text: &[u8]) {
-    let _ = rt.write_all(text);
-}
-
-fn print_next(rt: &impl Print, n: u64) {
-    print(rt, b" ");
-    let _ = rt.print(n);
-}
-
-fn print_answer(rt: &impl Print, answer: Answer) {
-    print_next(rt, answer.number() as u64);
-}
-
-fn print_byte(rt: &impl Print, byte: u8) {
-    let _ = print!(rt; "{byte:02x}");
-}
-
 fn print_bytes(rt: &impl Print, bytes: &[u8]) {
-    let mut i = 0;
-    while i < bytes.len() {
-        print_byte(rt, bytes[i]);
-        i += 1;
+    for byte in bytes {
+        let _ = print!(rt; "{byte:02x}");
     }
 }
 
 fn print_fields(rt: &impl Print, fields: &[u64]) {
-    let mut i = 0;
-    while i < fields.len() {
-        print_next(rt, fields[i]);
-        i += 1;
+    for field in fields {
+        let _ = print!(rt; " {field}");
     }
 }
 
@@ -100,258 +68,159 @@ fn blank_fields() -> [u64; FIELD_ROOM]
     [BLANK_FIELD; FIELD_ROOM]
 }
 
-// Whether the output is blank from a place on.
-fn blank(out: &[u8], from: usize) -> bool {
-    let mut i = from;
-    while i < out.len() {
-        if out[i] != BLANK {
-            return false;
-        }
-        i += 1;
-    }
-    true
+fn kept_if(kept: bool) -> &'static str {
+    if kept { "kept" } else { "changed" }
 }
 
-fn blank_numbers(out: &[u64], from: usize) -> bool {
-    let mut i = from;
-    while i < out.len() {
-        if out[i] != BLANK_FIELD {
-            return false;
-        }
-        i += 1;
-    }
-    true
+// Whether an output is blank from a place on.
+fn kept(out: &[u8], from: usize) -> &'static str {
+    kept_if(cases::is_blank(out, from))
 }
 
-fn print_kept(rt: &impl Print, kept: bool) {
-    if kept {
-        print(rt, b" kept");
-    } else {
-        print(rt, b" changed");
-    }
+fn kept_fields(out: &[u64], from: usize) -> &'static str {
+    let rest = out.get(from..).unwrap_or(&[]);
+    kept_if(rest.iter().all(|&field| field == BLANK_FIELD))
 }
 
-fn same_numbers(a: &[u64], b: &[u64]) -> bool {
-    if a.len() != b.len() {
-        return false;
-    }
-    let mut i = 0;
-    while i < a.len() {
-        if a[i] != b[i] {
-            return false;
-        }
-        i += 1;
-    }
-    true
-}
-
-// The first bytes of an output; all of it where it has no more.
-fn first(out: &[u8], count: usize) -> &[u8] {
-    if out.len() < count {
-        out
-    } else {
-        &out[..count]
-    }
-}
-
-fn first_numbers(out: &[u64], count: usize) -> &[u64] {
-    if out.len() < count {
-        out
-    } else {
-        &out[..count]
-    }
-}
-
-fn same_header(read: ScriptRead, header: Header) -> bool {
-    if read.capacity != header.capacity {
-        return false;
-    }
-    if read.bands != header.bands {
-        return false;
-    }
-    read.sensors == header.sensors
+// The first items of an output; all of it where it has no more.
+fn first<T>(out: &[T], count: usize) -> &[T] {
+    out.get(..count).unwrap_or(out)
 }
 
 // Whether the reader hands back a script's header, fields and tokens.
 fn reads_back(script: &[u8], header: Header, fields: &[u64], tokens: &[u8]) -> bool {
     let mut numbers = blank_fields();
     let mut bytes = blanks();
-    let read = script_reader::read(script, &mut numbers, &mut bytes);
-    let answer = read.answer;
-    if answer.number() != 0 {
+    let Ok(read) = script_reader::read(script, &mut numbers, &mut bytes) else {
         return false;
-    }
-    if !same_header(read, header) {
-        return false;
-    }
-    if !same_numbers(first_numbers(&numbers, read.field_count), fields) {
-        return false;
-    }
-    first(&bytes, read.token_count) == tokens
+    };
+    read.header == header
+        && first(&numbers, read.fields) == fields
+        && first(&bytes, read.tokens) == tokens
 }
 
 fn print_script(rt: &impl Print, script: &[u8]) {
-    print_next(rt, script.len() as u64);
+    let _ = print!(rt; " {}", script.len());
     if script.len() <= SHOWN {
-        print(rt, b" ");
+        let _ = print!(rt; " ");
         print_bytes(rt, script);
     }
 }
 
-fn print_again(rt: &impl Print, again: bool) {
-    if again {
-        print(rt, b" same");
-    } else {
-        print(rt, b" other");
-    }
+fn same(again: bool) -> &'static str {
+    if again { "same" } else { "other" }
 }
 
 // Writes a script into an output with room, after its title was printed.
 fn write_headed(rt: &impl Print, header: Header, fields: &[u64], tokens: &[u8]) {
     let mut out = blanks();
-    let written = script_writer::write(
-        header.capacity,
-        header.bands,
-        header.sensors,
-        fields,
-        tokens,
-        &mut out,
-    );
-    let answer = written.answer;
-    print(rt, b":");
-    print_answer(rt, answer);
-    if answer.number() == 0 {
-        let script = first(&out, written.count);
+    let written = script_writer::write(header, fields, tokens, &mut out);
+    let _ = print!(rt; ": {}", answer::number(written));
+    if let Ok(count) = written {
+        let script = first(&out, count);
         print_script(rt, script);
-        print_again(rt, reads_back(script, header, fields, tokens));
+        let _ = print!(rt; " {}", same(reads_back(script, header, fields, tokens)));
     }
-    print_kept(rt, blank(&out, written.count));
-    print(rt, b"\n");
+    let _ = println!(rt; " {}", kept(&out, written.unwrap_or(0)));
 }
 
 // Writes events under the usual header.
-fn write(rt: &impl Print, title: &[u8], fields: &[u64], tokens: &[u8]) {
-    print(rt, title);
-    write_headed(rt, usual(), fields, tokens);
+fn write(rt: &impl Print, title: &str, fields: &[u64], tokens: &[u8]) {
+    let _ = print!(rt; "{title}");
+    write_headed(rt, USUAL, fields, tokens);
 }
 
 // Writes a header with no events.
 fn try_header(rt: &impl Print, capacity: u64, bands: u64, sensors: u64) {
-    print(rt, b"header");
-    print_next(rt, capacity);
-    print_next(rt, bands);
-    print_next(rt, sensors);
-    let h = Header {
+    let _ = print!(rt; "header {capacity} {bands} {sensors}");
+    let header = Header {
         capacity,
         bands,
         sensors,
     };
-    write_headed(rt, h, &[], b"");
+    write_headed(rt, header, &[], b"");
 }
 
 fn headers(rt: &impl Print) {
-    try_header(rt, 0, 2, 1);
-    try_header(rt, 1, 2, 1);
-    try_header(rt, GREATEST, 2, 1);
-    try_header(rt, GREATEST + 1, 2, 1);
-    try_header(rt, MOST, 2, 1);
-    try_header(rt, 1_000, 0, 1);
-    try_header(rt, 1_000, 1, 1);
-    try_header(rt, 1_000, 16, 1);
-    try_header(rt, 1_000, 17, 1);
-    try_header(rt, 1_000, MOST, 1);
-    try_header(rt, 1_000, 2, 0);
-    try_header(rt, 1_000, 2, 16);
-    try_header(rt, 1_000, 2, 17);
-    try_header(rt, 1_000, 2, MOST);
+    for capacity in [0, 1, GREATEST, GREATEST + 1, MOST] {
+        try_header(rt, capacity, 2, 1);
+    }
+    for bands in [0, 1, 16, 17, MOST] {
+        try_header(rt, 1_000, bands, 1);
+    }
+    for sensors in [0, 16, 17, MOST] {
+        try_header(rt, 1_000, 2, sensors);
+    }
 }
 
 fn worked(rt: &impl Print) {
-    write(rt, b"document 01's script", &WORKED_FIELDS, &WORKED_TOKENS);
+    write(rt, "document 01's script", &WORKED_FIELDS, &WORKED_TOKENS);
 }
 
-// A reading of sensor 0.
-fn reading(rt: &impl Print, value: u64) {
-    print(rt, b"reading");
-    print_next(rt, value);
-    write_headed(rt, usual(), &[1, 0, value], b"");
-}
-
-fn numbers(rt: &impl Print) {
-    reading(rt, 0);
-    reading(rt, 127);
-    reading(rt, 128);
-    reading(rt, 16_383);
-    reading(rt, 16_384);
-    reading(rt, MOST / 2);
-    reading(rt, MOST / 2 + 1);
-    reading(rt, MOST);
+// Readings of sensor 0.
+fn readings(rt: &impl Print) {
+    for value in [0, 127, 128, 16_383, 16_384, MOST / 2, MOST / 2 + 1, MOST] {
+        let _ = print!(rt; "reading {value}");
+        write_headed(rt, USUAL, &[1, 0, value], b"");
+    }
 }
 
 fn kinds(rt: &impl Print) {
-    write(rt, b"kind 0", &[0], b"");
-    write(rt, b"kind 0 with three numbers", &[0, 0, 0], b"");
+    write(rt, "kind 0", &[0], b"");
+    write(rt, "kind 0 with three numbers", &[0, 0, 0], b"");
 }
 
 fn later_kinds(rt: &impl Print) {
-    write(rt, b"kind 8", &[8], b"");
-    write(rt, b"kind 8 with four numbers", &[8, 0, 0, 0], b"");
-    write(rt, b"the greatest kind", &[MOST, 0, 0, 0], b"");
-    write(rt, b"kind 257", &[257, 0, 0], b"");
+    write(rt, "kind 8", &[8], b"");
+    write(rt, "kind 8 with four numbers", &[8, 0, 0, 0], b"");
+    write(rt, "the greatest kind", &[MOST, 0, 0, 0], b"");
+    write(rt, "kind 257", &[257, 0, 0], b"");
 }
 
 // Each kind with the greatest numbers.
 fn greatest(rt: &impl Print) {
-    write(rt, b"greatest reading", &[1, MOST, MOST], b"");
-    write(rt, b"greatest elapse", &[2, MOST], b"");
-    write(rt, b"greatest reset", &[3, MOST], b"");
-    write(rt, b"greatest geometry", &[6, MOST, MOST, MOST], b"");
-    write(rt, b"greatest transfer", &[7, MOST, MOST, MOST], b"");
+    write(rt, "greatest reading", &[1, MOST, MOST], b"");
+    write(rt, "greatest elapse", &[2, MOST], b"");
+    write(rt, "greatest reset", &[3, MOST], b"");
+    write(rt, "greatest geometry", &[6, MOST, MOST, MOST], b"");
+    write(rt, "greatest transfer", &[7, MOST, MOST, MOST], b"");
 }
 
 fn greatest_sets(rt: &impl Print) {
     let row = [4, MOST, 127, MOST, MOST, MOST, MOST, MOST, MOST, MOST];
-    write(rt, b"greatest sensor Set", &row, b"");
+    write(rt, "greatest sensor Set", &row, b"");
     let row = [5, MOST, 63, MOST, MOST, MOST, MOST, MOST, 2];
-    write(rt, b"greatest band Set", &row, b"\xF0\xF1");
+    write(rt, "greatest band Set", &row, b"\xF0\xF1");
 }
 
 // A Set of sensor 0 with the same value in each column.
 fn sensor_mask(rt: &impl Print, mask: u64, value: u64) {
-    print(rt, b"sensor Set, mask");
-    print_next(rt, mask);
-    print(rt, b", all");
-    print_next(rt, value);
+    let _ = print!(rt; "sensor Set, mask {mask}, all {value}");
     let v = value;
-    write_headed(rt, usual(), &[4, 0, mask, v, v, v, v, v, v, v], b"");
+    write_headed(rt, USUAL, &[4, 0, mask, v, v, v, v, v, v, v], b"");
 }
 
 // A Set of band 0 with the same value in each column, and an empty expression.
 fn band_mask(rt: &impl Print, mask: u64, value: u64) {
-    print(rt, b"band Set, mask");
-    print_next(rt, mask);
-    print(rt, b", all");
-    print_next(rt, value);
+    let _ = print!(rt; "band Set, mask {mask}, all {value}");
     let v = value;
-    write_headed(rt, usual(), &[5, 0, mask, v, v, v, v, v, 0], b"");
+    write_headed(rt, USUAL, &[5, 0, mask, v, v, v, v, v, 0], b"");
 }
 
 fn masks(rt: &impl Print) {
-    sensor_mask(rt, 0, 0);
-    sensor_mask(rt, 0, 1);
-    sensor_mask(rt, 127, 0);
-    sensor_mask(rt, 127, 1);
-    sensor_mask(rt, 128, 0);
-    sensor_mask(rt, 128, 1);
+    for mask in [0, 127, 128] {
+        sensor_mask(rt, mask, 0);
+        sensor_mask(rt, mask, 1);
+    }
     sensor_mask(rt, 255, 1);
     sensor_mask(rt, MOST, 1);
     band_mask(rt, 0, 0);
     band_mask(rt, 0, 1);
     band_mask(rt, 31, 1);
-    band_mask(rt, 63, 0);
-    band_mask(rt, 63, 1);
-    band_mask(rt, 64, 0);
-    band_mask(rt, 64, 1);
+    for mask in [63, 64] {
+        band_mask(rt, mask, 0);
+        band_mask(rt, mask, 1);
+    }
     band_mask(rt, 127, 1);
     band_mask(rt, MOST, 1);
 }
@@ -360,97 +229,67 @@ fn masks(rt: &impl Print) {
 fn sensor_value(rt: &impl Print, mask: u64, at: usize, value: u64)
     requires { at < 10 }
 {
-    print(rt, b"sensor Set, mask");
-    print_next(rt, mask);
-    print(rt, b", number");
-    print_next(rt, at as u64);
-    print(rt, b" is");
-    print_next(rt, value);
+    let _ = print!(rt; "sensor Set, mask {mask}, number {at} is {value}");
     let mut row = [4, 0, mask, 0, 0, 0, 0, 0, 0, 0];
     row[at] = value;
-    write_headed(rt, usual(), &row, b"");
+    write_headed(rt, USUAL, &row, b"");
 }
 
 // Each column with a mask that names all others.
 fn sensor_values(rt: &impl Print) {
-    sensor_value(rt, 126, 3, 1);
-    sensor_value(rt, 125, 4, 1);
-    sensor_value(rt, 123, 5, 1);
-    sensor_value(rt, 119, 6, 1);
-    sensor_value(rt, 111, 7, 1);
-    sensor_value(rt, 95, 8, 1);
-    sensor_value(rt, 63, 9, 1);
-    sensor_value(rt, 126, 3, 0);
-    sensor_value(rt, 125, 4, 0);
-    sensor_value(rt, 123, 5, 0);
-    sensor_value(rt, 119, 6, 0);
-    sensor_value(rt, 111, 7, 0);
-    sensor_value(rt, 95, 8, 0);
-    sensor_value(rt, 63, 9, 0);
+    for value in [1, 0] {
+        for at in 3..10 {
+            sensor_value(rt, 127 ^ 1 << (at - 3), at, value);
+        }
+    }
 }
 
 // Each column with a mask that names it alone.
 fn sensor_columns(rt: &impl Print) {
-    sensor_value(rt, 1, 3, 1);
-    sensor_value(rt, 2, 4, 1);
-    sensor_value(rt, 4, 5, 1);
-    sensor_value(rt, 8, 6, 1);
-    sensor_value(rt, 16, 7, 1);
-    sensor_value(rt, 32, 8, 1);
-    sensor_value(rt, 64, 9, 1);
+    for at in 3..10 {
+        sensor_value(rt, 1 << (at - 3), at, 1);
+    }
 }
 
 // A Set of band 0 in which one value is other than 0, with an empty expression.
 fn band_value(rt: &impl Print, mask: u64, at: usize, value: u64)
     requires { at < 9 }
 {
-    print(rt, b"band Set, mask");
-    print_next(rt, mask);
-    print(rt, b", number");
-    print_next(rt, at as u64);
-    print(rt, b" is");
-    print_next(rt, value);
+    let _ = print!(rt; "band Set, mask {mask}, number {at} is {value}");
     let mut row = [5, 0, mask, 0, 0, 0, 0, 0, 0];
     row[at] = value;
-    write_headed(rt, usual(), &row, b"");
+    write_headed(rt, USUAL, &row, b"");
 }
 
 // Each column with a mask that names all others, and with one that names it alone.
 fn band_values(rt: &impl Print) {
-    band_value(rt, 62, 3, 1);
-    band_value(rt, 61, 4, 1);
-    band_value(rt, 59, 5, 1);
-    band_value(rt, 55, 6, 1);
-    band_value(rt, 47, 7, 1);
-    band_value(rt, 62, 3, 0);
-    band_value(rt, 61, 4, 0);
-    band_value(rt, 59, 5, 0);
-    band_value(rt, 55, 6, 0);
-    band_value(rt, 47, 7, 0);
-    band_value(rt, 1, 3, 1);
-    band_value(rt, 2, 4, 1);
-    band_value(rt, 4, 5, 1);
-    band_value(rt, 8, 6, 1);
-    band_value(rt, 16, 7, 1);
+    for value in [1, 0] {
+        for at in 3..8 {
+            band_value(rt, 63 ^ 1 << (at - 3), at, value);
+        }
+    }
+    for at in 3..8 {
+        band_value(rt, 1 << (at - 3), at, 1);
+    }
     band_value(rt, 32, 8, 0);
 }
 
 // A Set of band 0 whose expression has so many bytes.
-fn expression(rt: &impl Print, title: &[u8], mask: u64, count: u64, tokens: &[u8]) {
+fn expression(rt: &impl Print, title: &str, mask: u64, count: u64, tokens: &[u8]) {
     write(rt, title, &[5, 0, mask, 0, 0, 0, 0, 0, count], tokens);
 }
 
 fn expressions(rt: &impl Print) {
-    expression(rt, b"two expression bytes", 32, 2, b"\xF0\xF1");
-    expression(rt, b"no expression byte, named", 32, 0, b"");
-    expression(rt, b"no expression byte, not named", 0, 0, b"");
+    expression(rt, "two expression bytes", 32, 2, b"\xF0\xF1");
+    expression(rt, "no expression byte, named", 32, 0, b"");
+    expression(rt, "no expression byte, not named", 0, 0, b"");
 }
 
 fn expressions_not_named(rt: &impl Print) {
-    expression(rt, b"two expression bytes, not named", 0, 2, b"\xF0\xF1");
+    expression(rt, "two expression bytes, not named", 0, 2, b"\xF0\xF1");
     expression(
         rt,
-        b"two expression bytes, all else named",
+        "two expression bytes, all else named",
         31,
         2,
         b"\xF0\xF1",
@@ -461,9 +300,9 @@ fn expressions_not_named(rt: &impl Print) {
 fn long_expressions(rt: &impl Print) {
     let most = [0xF0; 1_024];
     let more = [0xF0; 1_025];
-    expression(rt, b"1,024 expression bytes", 32, 1_024, &most);
-    expression(rt, b"1,024 expression bytes, not named", 31, 1_024, &most);
-    expression(rt, b"1,025 expression bytes", 32, 1_025, &more);
+    expression(rt, "1,024 expression bytes", 32, 1_024, &most);
+    expression(rt, "1,024 expression bytes, not named", 31, 1_024, &most);
+    expression(rt, "1,025 expression bytes", 32, 1_025, &more);
 }
 
 fn miscounted_expressions(rt: &impl Print) {
@@ -471,213 +310,183 @@ fn miscounted_expressions(rt: &impl Print) {
     let more = [0xF0; 1_025];
     expression(
         rt,
-        b"1,025 expression bytes said, 1,024 given",
+        "1,025 expression bytes said, 1,024 given",
         32,
         1_025,
         &most,
     );
     expression(
         rt,
-        b"1,024 expression bytes said, 1,025 given",
+        "1,024 expression bytes said, 1,025 given",
         32,
         1_024,
         &more,
     );
     expression(
         rt,
-        b"the greatest count of expression bytes",
+        "the greatest count of expression bytes",
         32,
         MOST,
         &more,
     );
-    expression(rt, b"the greatest count, not named", 0, MOST, b"");
+    expression(rt, "the greatest count, not named", 0, MOST, b"");
 }
 
 // What the drive refuses when the script runs, and a script holds: values, rows, types and expressions.
 fn refused_values(rt: &impl Print) {
-    write(rt, b"boolean 2", &[5, 0, 1, 2, 0, 0, 0, 0, 0], b"");
-    write(rt, b"enabled 2", &[4, 0, 1, 2, 0, 0, 0, 0, 0, 0], b"");
+    write(rt, "boolean 2", &[5, 0, 1, 2, 0, 0, 0, 0, 0], b"");
+    write(rt, "enabled 2", &[4, 0, 1, 2, 0, 0, 0, 0, 0, 0], b"");
     write(
         rt,
-        b"fraction 1,000",
+        "fraction 1,000",
         &[4, 0, 4, 0, 0, 1000, 0, 0, 0, 0],
         b"",
     );
-    write(rt, b"LockOnReset 16", &[5, 0, 16, 0, 0, 0, 0, 16, 0], b"");
+    write(rt, "LockOnReset 16", &[5, 0, 16, 0, 0, 0, 0, 16, 0], b"");
 }
 
 fn refused_rows(rt: &impl Print) {
-    write(rt, b"band 99", &[5, 99, 1, 1, 0, 0, 0, 0, 0], b"");
-    write(rt, b"sensor 99", &[1, 99, 0], b"");
-    write(rt, b"elapse of 2^32", &[2, 4_294_967_296], b"");
+    write(rt, "band 99", &[5, 99, 1, 1, 0, 0, 0, 0, 0], b"");
+    write(rt, "sensor 99", &[1, 99, 0], b"");
+    write(rt, "elapse of 2^32", &[2, 4_294_967_296], b"");
 }
 
 fn refused_types(rt: &impl Print) {
-    write(rt, b"reset of type 4", &[3, 4], b"");
-    write(rt, b"geometry of band 0", &[6, 0, 0, 1], b"");
-    write(rt, b"geometry past the end", &[6, 1, 1_001, 1], b"");
-    write(rt, b"transfer in direction 2", &[7, 2, 0, 1], b"");
+    write(rt, "reset of type 4", &[3, 4], b"");
+    write(rt, "geometry of band 0", &[6, 0, 0, 1], b"");
+    write(rt, "geometry past the end", &[6, 1, 1_001, 1], b"");
+    write(rt, "transfer in direction 2", &[7, 2, 0, 1], b"");
 }
 
 fn refused_expressions(rt: &impl Print) {
-    expression(rt, b"broken tokens", 32, 3, b"\xF1\xF0\xF0");
+    expression(rt, "broken tokens", 32, 3, b"\xF1\xF0\xF0");
     expression(
         rt,
-        b"AND alone",
+        "AND alone",
         32,
         10,
         b"\xF0\xF2\xA4\x00\x00\x04\x0E\x00\xF3\xF1",
     );
 }
 
-// Writes the first numbers of some fields, and prints the answer.
-fn write_part(rt: &impl Print, fields: &[u64], count: usize, tokens: &[u8])
-    requires { count ≤ length fields.now }
-{
-    let mut out = blanks();
-    let written = script_writer::write(1_000, 2, 1, &fields[..count], tokens, &mut out);
-    let answer = written.answer;
-    print_answer(rt, answer);
-}
-
 // Writes fields that are cut at each place, from none of them to all.
-fn cut(rt: &impl Print, title: &[u8], fields: &[u64], tokens: &[u8]) {
-    print(rt, title);
-    print(rt, b", cut:");
-    for count in 0..fields.len() {
-        write_part(rt, fields, count, tokens);
+fn cut(rt: &impl Print, title: &str, fields: &[u64], tokens: &[u8]) {
+    let _ = print!(rt; "{title}, cut:");
+    for count in 0..=fields.len() {
+        let mut out = blanks();
+        let written = script_writer::write(USUAL, &fields[..count], tokens, &mut out);
+        let _ = print!(rt; " {}", answer::number(written));
     }
-    write_part(rt, fields, fields.len(), tokens);
-    print(rt, b"\n");
+    let _ = println!(rt);
 }
 
 fn cuts(rt: &impl Print) {
-    cut(rt, b"reading", &[1, 0, 5], b"");
-    cut(rt, b"elapse", &[2, 5], b"");
-    cut(rt, b"reset", &[3, 0], b"");
+    cut(rt, "reading", &[1, 0, 5], b"");
+    cut(rt, "elapse", &[2, 5], b"");
+    cut(rt, "reset", &[3, 0], b"");
 }
 
 fn cut_sensor_sets(rt: &impl Print) {
-    cut(rt, b"sensor Set", &[4, 0, 27, 1, 5, 0, 3, 5, 0, 0], b"");
+    cut(rt, "sensor Set", &[4, 0, 27, 1, 5, 0, 3, 5, 0, 0], b"");
     cut(
         rt,
-        b"sensor Set of nothing",
+        "sensor Set of nothing",
         &[4, 0, 0, 0, 0, 0, 0, 0, 0, 0],
         b"",
     );
 }
 
 fn cut_band_sets(rt: &impl Print) {
-    cut(rt, b"band Set", &[5, 0, 33, 1, 0, 0, 0, 0, 2], b"\xF0\xF1");
-    cut(
-        rt,
-        b"band Set of nothing",
-        &[5, 0, 0, 0, 0, 0, 0, 0, 0],
-        b"",
-    );
+    cut(rt, "band Set", &[5, 0, 33, 1, 0, 0, 0, 0, 2], b"\xF0\xF1");
+    cut(rt, "band Set of nothing", &[5, 0, 0, 0, 0, 0, 0, 0, 0], b"");
 }
 
 fn cut_spans(rt: &impl Print) {
-    cut(rt, b"geometry", &[6, 1, 100, 50], b"");
-    cut(rt, b"transfer", &[7, 0, 99, 2], b"");
+    cut(rt, "geometry", &[6, 1, 100, 50], b"");
+    cut(rt, "transfer", &[7, 0, 99, 2], b"");
 }
 
 fn cut_lists(rt: &impl Print) {
-    cut(rt, b"elapse and reading", &[2, 5, 1, 0, 5], b"");
-    cut(rt, b"document 01's script", &WORKED_FIELDS, &WORKED_TOKENS);
+    cut(rt, "elapse and reading", &[2, 5, 1, 0, 5], b"");
+    cut(rt, "document 01's script", &WORKED_FIELDS, &WORKED_TOKENS);
 }
 
 fn no_events(rt: &impl Print) {
-    write(rt, b"no event", &[], b"");
-    write(rt, b"no event, a token byte", &[], b"\xF0");
+    write(rt, "no event", &[], b"");
+    write(rt, "no event, a token byte", &[], b"\xF0");
 }
 
 fn left_over_after_an_event(rt: &impl Print) {
-    write(rt, b"elapse", &[2, 5], b"");
-    write(rt, b"elapse, a number left over", &[2, 5, 0], b"");
+    write(rt, "elapse", &[2, 5], b"");
+    write(rt, "elapse, a number left over", &[2, 5, 0], b"");
     write(
         rt,
-        b"elapse, the start of another left over",
+        "elapse, the start of another left over",
         &[2, 5, 2],
         b"",
     );
-    write(rt, b"elapse, a token byte left over", &[2, 5], b"\x00");
+    write(rt, "elapse, a token byte left over", &[2, 5], b"\x00");
 }
 
 fn left_over_tokens(rt: &impl Print) {
     let row = [5, 0, 32, 0, 0, 0, 0, 0, 2];
-    write(rt, b"two token bytes said and given", &row, b"\xF0\xF1");
-    write(rt, b"a token byte left over", &row, b"\xF0\xF1\xF1");
-    write(rt, b"a token byte too few", &row, b"\xF0");
-    write(rt, b"no token byte", &row, b"");
+    write(rt, "two token bytes said and given", &row, b"\xF0\xF1");
+    write(rt, "a token byte left over", &row, b"\xF0\xF1\xF1");
+    write(rt, "a token byte too few", &row, b"\xF0");
+    write(rt, "no token byte", &row, b"");
 }
 
 fn two_sets(rt: &impl Print) {
     let rows = [5, 0, 32, 0, 0, 0, 0, 0, 2, 5, 1, 32, 0, 0, 0, 0, 0, 1];
-    write(rt, b"two Sets, three token bytes", &rows, b"\xF0\xF1\xF2");
-    write(rt, b"two Sets, two token bytes", &rows, b"\xF0\xF1");
-    write(
-        rt,
-        b"two Sets, four token bytes",
-        &rows,
-        b"\xF0\xF1\xF2\xF3",
-    );
+    write(rt, "two Sets, three token bytes", &rows, b"\xF0\xF1\xF2");
+    write(rt, "two Sets, two token bytes", &rows, b"\xF0\xF1");
+    write(rt, "two Sets, four token bytes", &rows, b"\xF0\xF1\xF2\xF3");
 }
 
 fn one_bad_event(rt: &impl Print) {
     let rows = [5, 0, 32, 0, 0, 0, 0, 0, 2, 1, 0, 5, 8];
-    write(rt, b"a good event, and one that is not", &rows, b"\xF0\xF1");
-}
-
-// Writes into the first bytes of an output.
-fn write_part_of(fields: &[u64], tokens: &[u8], out: &mut [u8], room: usize) -> Written
-    requires { room ≤ length out.old }
-{
-    script_writer::write(1_000, 2, 1, fields, tokens, &mut out[..room])
+    write(rt, "a good event, and one that is not", &rows, b"\xF0\xF1");
 }
 
 // Writes into an output of so many bytes.
-fn write_within(rt: &impl Print, title: &[u8], fields: &[u64], tokens: &[u8], room: usize)
+fn write_within(rt: &impl Print, title: &str, fields: &[u64], tokens: &[u8], room: usize)
     requires { room ≤ 1200 }
 {
     let mut out = blanks();
-    let written = write_part_of(fields, tokens, &mut out, room);
-    let answer = written.answer;
-    print(rt, title);
-    print(rt, b", output of");
-    print_next(rt, room as u64);
-    print(rt, b":");
-    print_answer(rt, answer);
-    print_next(rt, written.count as u64);
-    print_kept(rt, blank(&out, written.count));
-    print(rt, b"\n");
+    let written = script_writer::write(USUAL, fields, tokens, &mut out[..room]);
+    let count = written.unwrap_or(0);
+    let _ = println!(rt;
+        "{title}, output of {room}: {} {count} {}",
+        answer::number(written),
+        kept(&out, count)
+    );
 }
 
 fn outputs(rt: &impl Print) {
     write_within(
         rt,
-        b"document 01's script",
+        "document 01's script",
         &WORKED_FIELDS,
         &WORKED_TOKENS,
         0,
     );
     write_within(
         rt,
-        b"document 01's script",
+        "document 01's script",
         &WORKED_FIELDS,
         &WORKED_TOKENS,
         51,
     );
     write_within(
         rt,
-        b"document 01's script",
+        "document 01's script",
         &WORKED_FIELDS,
         &WORKED_TOKENS,
         52,
     );
     write_within(
         rt,
-        b"document 01's script",
+        "document 01's script",
         &WORKED_FIELDS,
         &WORKED_TOKENS,
         53,
@@ -685,18 +494,18 @@ fn outputs(rt: &impl Print) {
 }
 
 fn outputs_of_a_header(rt: &impl Print) {
-    write_within(rt, b"no event", &[], b"", 0);
-    write_within(rt, b"no event", &[], b"", 3);
-    write_within(rt, b"no event", &[], b"", 4);
+    write_within(rt, "no event", &[], b"", 0);
+    write_within(rt, "no event", &[], b"", 3);
+    write_within(rt, "no event", &[], b"", 4);
 }
 
 fn wrong_and_short(rt: &impl Print) {
-    write_within(rt, b"kind 8", &[8, 0, 0, 0], b"", 0);
-    write_within(rt, b"a number left over", &[2, 5, 2], b"", 3);
-    write_within(rt, b"a token byte left over", &[2, 5], b"\x00", 5);
+    write_within(rt, "kind 8", &[8, 0, 0, 0], b"", 0);
+    write_within(rt, "a number left over", &[2, 5, 2], b"", 3);
+    write_within(rt, "a token byte left over", &[2, 5], b"\x00", 5);
     write_within(
         rt,
-        b"a value not named",
+        "a value not named",
         &[4, 0, 0, 1, 0, 0, 0, 0, 0, 0],
         b"",
         4,
@@ -739,132 +548,115 @@ fn is_longest(out: &[u8]) -> bool {
 }
 
 // Writes many events into an output of so many bytes.
-fn write_long(rt: &impl Print, title: &[u8], fields: &[u64], room: usize)
+fn write_long(rt: &impl Print, title: &str, fields: &[u64], room: usize)
     requires { room ≤ 65537 }
 {
     let mut out = long_blanks();
-    let written = write_part_of(fields, b"", &mut out, room);
-    let answer = written.answer;
-    print(rt, title);
-    print(rt, b", output of");
-    print_next(rt, room as u64);
-    print(rt, b":");
-    print_answer(rt, answer);
-    print_next(rt, written.count as u64);
-    if answer.number() == 0 {
-        print_again(rt, is_longest(&out));
+    let written = script_writer::write(USUAL, fields, b"", &mut out[..room]);
+    let count = written.unwrap_or(0);
+    let _ = print!(rt;
+        "{title}, output of {room}: {} {count}",
+        answer::number(written)
+    );
+    if written.is_ok() {
+        let _ = print!(rt; " {}", same(is_longest(&out)));
     }
-    print_kept(rt, blank(&out, written.count));
-    print(rt, b"\n");
+    let _ = println!(rt; " {}", kept(&out, count));
 }
 
 fn long_scripts(rt: &impl Print) {
     let mut fields = elapses();
-    write_long(rt, b"65,536 bytes", &fields, 65_537);
-    write_long(rt, b"65,536 bytes", &fields, 65_536);
-    write_long(rt, b"65,536 bytes", &fields, 65_535);
+    write_long(rt, "65,536 bytes", &fields, 65_537);
+    write_long(rt, "65,536 bytes", &fields, 65_536);
+    write_long(rt, "65,536 bytes", &fields, 65_535);
     fields[65_531] = 128;
-    write_long(rt, b"65,537 bytes", &fields, 65_537);
-    write_long(rt, b"65,537 bytes", &fields, 65_536);
-    write_long(rt, b"65,537 bytes", &fields, 0);
+    write_long(rt, "65,537 bytes", &fields, 65_537);
+    write_long(rt, "65,537 bytes", &fields, 65_536);
+    write_long(rt, "65,537 bytes", &fields, 0);
 }
 
-// Reads into the first of a page of numbers and of one of bytes.
-fn read_part_of(
-    script: &[u8],
-    fields: &mut [u64],
-    width: usize,
-    tokens: &mut [u8],
-    room: usize,
-) -> ScriptRead
-    requires { (width ≤ length fields.old) × (room ≤ length tokens.old) }
-{
-    script_reader::read(script, &mut fields[..width], &mut tokens[..room])
-}
-
-fn print_read(rt: &impl Print, read: ScriptRead, fields: &[u64], tokens: &[u8]) {
-    print(rt, b"; header");
-    print_next(rt, read.capacity);
-    print_next(rt, read.bands);
-    print_next(rt, read.sensors);
-    print(rt, b"; fields");
-    print_next(rt, read.field_count as u64);
-    print(rt, b":");
-    print_fields(rt, first_numbers(fields, read.field_count));
-    print(rt, b"; tokens");
-    print_next(rt, read.token_count as u64);
-    print(rt, b": ");
-    print_bytes(rt, first(tokens, read.token_count));
+fn print_read(rt: &impl Print, read: FlatScript, fields: &[u64], tokens: &[u8]) {
+    let header = read.header;
+    let _ = print!(rt;
+        "; header {} {} {}; fields {}:",
+        header.capacity, header.bands, header.sensors, read.fields
+    );
+    print_fields(rt, first(fields, read.fields));
+    let _ = print!(rt; "; tokens {}: ", read.tokens);
+    print_bytes(rt, first(tokens, read.tokens));
 }
 
 // Reads a script into so many numbers and bytes.
-fn read_within(rt: &impl Print, title: &[u8], script: &[u8], width: usize, room: usize)
+fn read_within(rt: &impl Print, title: &str, script: &[u8], width: usize, room: usize)
     requires { (width ≤ 64) × (room ≤ 1200) }
 {
     let mut fields = blank_fields();
     let mut tokens = blanks();
-    let read = read_part_of(script, &mut fields, width, &mut tokens, room);
-    let answer = read.answer;
-    print(rt, b"read ");
-    print(rt, title);
-    print(rt, b":");
-    print_answer(rt, answer);
-    print_next(rt, read.place as u64);
-    print_kept(rt, blank_numbers(&fields, read.field_count));
-    print_kept(rt, blank(&tokens, read.token_count));
-    if answer.number() == 0 {
-        print_read(rt, read, &fields, &tokens);
+    match script_reader::read(script, &mut fields[..width], &mut tokens[..room]) {
+        Ok(read) => {
+            let _ = print!(rt;
+                "read {title}: 0 0 {} {}",
+                kept_fields(&fields, read.fields),
+                kept(&tokens, read.tokens)
+            );
+            print_read(rt, read, &fields, &tokens);
+        }
+        Err(error) => {
+            let _ = print!(rt;
+                "read {title}: {} {} {} {}",
+                error.number(),
+                error.place(),
+                kept_fields(&fields, 0),
+                kept(&tokens, 0)
+            );
+        }
     }
-    print(rt, b"\n");
+    let _ = println!(rt);
 }
 
-fn read(rt: &impl Print, title: &[u8], script: &[u8]) {
+fn read(rt: &impl Print, title: &str, script: &[u8]) {
     read_within(rt, title, script, 64, 1_200);
 }
 
 fn good_scripts(rt: &impl Print) {
-    read(rt, b"document 01's script", &WORKED);
-    read(rt, b"no event", b"\xE8\x07\x02\x01");
+    read(rt, "document 01's script", &WORKED);
+    read(rt, "no event", b"\xE8\x07\x02\x01");
 }
 
 fn good_sensor_sets(rt: &impl Print) {
+    read(rt, "sensor Set of nothing", b"\xE8\x07\x02\x01\x04\x00\x00");
     read(
         rt,
-        b"sensor Set of nothing",
-        b"\xE8\x07\x02\x01\x04\x00\x00",
-    );
-    read(
-        rt,
-        b"sensor Set of all",
+        "sensor Set of all",
         b"\xE8\x07\x02\x01\x04\x00\x7F\x01\x02\x03\x04\x05\x06\x07",
     );
     read(
         rt,
-        b"sensor Set of every second column",
+        "sensor Set of every second column",
         b"\xE8\x07\x02\x01\x04\x00\x2A\x02\x04\x06",
     );
     read(
         rt,
-        b"sensor Set of the last column",
+        "sensor Set of the last column",
         b"\xE8\x07\x02\x01\x04\x00\x40\x07",
     );
 }
 
 fn good_band_sets(rt: &impl Print) {
-    read(rt, b"band Set of nothing", b"\xE8\x07\x02\x01\x05\x01\x00");
+    read(rt, "band Set of nothing", b"\xE8\x07\x02\x01\x05\x01\x00");
     read(
         rt,
-        b"band Set of all",
+        "band Set of all",
         b"\xE8\x07\x02\x01\x05\x01\x3F\x01\x02\x03\x04\x05\x02\xF0\xF1",
     );
     read(
         rt,
-        b"band Set of LockOnReset",
+        "band Set of LockOnReset",
         b"\xE8\x07\x02\x01\x05\x01\x10\x07",
     );
     read(
         rt,
-        b"band Set of no expression byte",
+        "band Set of no expression byte",
         b"\xE8\x07\x02\x01\x05\x01\x20\x00",
     );
 }
@@ -872,124 +664,120 @@ fn good_band_sets(rt: &impl Print) {
 fn other_good_scripts(rt: &impl Print) {
     read(
         rt,
-        b"broken tokens",
+        "broken tokens",
         b"\xE8\x07\x02\x01\x05\x01\x20\x03\xF1\xF0\xF0",
     );
     read(
         rt,
-        b"the greatest reading",
+        "the greatest reading",
         b"\xE8\x07\x02\x01\x01\x00\xFF\xFF\xFF\xFF\xFF\xFF\xFF\xFF\xFF\x01",
     );
     read(
         rt,
-        b"two Sets",
+        "two Sets",
         b"\xE8\x07\x02\x01\x05\x00\x20\x02\xF0\xF1\x05\x01\x20\x01\xF2",
     );
 }
 
 fn bad_headers(rt: &impl Print) {
-    read(rt, b"no byte", b"");
-    read(rt, b"a cut header", b"\xE8\x07\x02");
-    read(rt, b"a cut capacity", b"\xE8");
-    read(rt, b"capacity 0", b"\x00\x02\x01");
+    read(rt, "no byte", b"");
+    read(rt, "a cut header", b"\xE8\x07\x02");
+    read(rt, "a cut capacity", b"\xE8");
+    read(rt, "capacity 0", b"\x00\x02\x01");
+    read(rt, "capacity 2^48", b"\x80\x80\x80\x80\x80\x80\x40\x02\x01");
     read(
         rt,
-        b"capacity 2^48",
-        b"\x80\x80\x80\x80\x80\x80\x40\x02\x01",
-    );
-    read(
-        rt,
-        b"capacity 2^48 + 1",
+        "capacity 2^48 + 1",
         b"\x81\x80\x80\x80\x80\x80\x40\x02\x01",
     );
 }
 
 fn bad_counts(rt: &impl Print) {
-    read(rt, b"bands 0", b"\xE8\x07\x00\x01");
-    read(rt, b"bands 17", b"\xE8\x07\x11\x01");
-    read(rt, b"sensors 16", b"\xE8\x07\x02\x10");
-    read(rt, b"sensors 17", b"\xE8\x07\x02\x11");
+    read(rt, "bands 0", b"\xE8\x07\x00\x01");
+    read(rt, "bands 17", b"\xE8\x07\x11\x01");
+    read(rt, "sensors 16", b"\xE8\x07\x02\x10");
+    read(rt, "sensors 17", b"\xE8\x07\x02\x11");
     read(
         rt,
-        b"a bad header before a bad event",
+        "a bad header before a bad event",
         b"\xE8\x07\x02\x11\x08",
     );
 }
 
 fn bad_kinds(rt: &impl Print) {
-    read(rt, b"kind 0", b"\xE8\x07\x02\x01\x00");
-    read(rt, b"kind 8", b"\xE8\x07\x02\x01\x08\x00\x00\x00");
+    read(rt, "kind 0", b"\xE8\x07\x02\x01\x00");
+    read(rt, "kind 8", b"\xE8\x07\x02\x01\x08\x00\x00\x00");
     read(
         rt,
-        b"kind 8 after an elapse",
+        "kind 8 after an elapse",
         b"\xE8\x07\x02\x01\x02\x05\x08\x00\x00\x00",
     );
 }
 
 fn bad_numbers(rt: &impl Print) {
-    read(rt, b"a cut reading", b"\xE8\x07\x02\x01\x02\x05\x01\x00");
-    read(rt, b"a cut number", b"\xE8\x07\x02\x01\x02\x05\x02\x80");
+    read(rt, "a cut reading", b"\xE8\x07\x02\x01\x02\x05\x01\x00");
+    read(rt, "a cut number", b"\xE8\x07\x02\x01\x02\x05\x02\x80");
     read(
         rt,
-        b"a number not in shortest form",
+        "a number not in shortest form",
         b"\xE8\x07\x02\x01\x02\x05\x02\x85\x00",
     );
     read(
         rt,
-        b"a number of 2^64",
+        "a number of 2^64",
         b"\xE8\x07\x02\x01\x02\x80\x80\x80\x80\x80\x80\x80\x80\x80\x02",
     );
 }
 
 fn bad_sets(rt: &impl Print) {
-    read(rt, b"sensor mask 128", b"\xE8\x07\x02\x01\x04\x00\x80\x01");
-    read(rt, b"band mask 64", b"\xE8\x07\x02\x01\x05\x00\x40");
+    read(rt, "sensor mask 128", b"\xE8\x07\x02\x01\x04\x00\x80\x01");
+    read(rt, "band mask 64", b"\xE8\x07\x02\x01\x05\x00\x40");
     read(
         rt,
-        b"1,025 expression bytes",
+        "1,025 expression bytes",
         b"\xE8\x07\x02\x01\x05\x00\x20\x81\x08",
     );
     read(
         rt,
-        b"cut expression bytes",
+        "cut expression bytes",
         b"\xE8\x07\x02\x01\x05\x00\x20\x02\xF0",
     );
     read(
         rt,
-        b"kind 8 after document 01's first Set",
+        "kind 8 after document 01's first Set",
         b"\xE8\x07\x02\x01\x04\x00\x1B\x01\x05\x03\x05\x08",
     );
 }
 
 fn overlong(rt: &impl Print) {
     let long = [2; LONG_ROOM];
-    read(rt, b"65,537 bytes", &long);
+    read(rt, "65,537 bytes", &long);
 }
 
 fn short_slices(rt: &impl Print) {
-    read_within(rt, b"document 01's script into 45 and 14", &WORKED, 45, 14);
-    read_within(rt, b"document 01's script into 44 and 14", &WORKED, 44, 14);
-    read_within(rt, b"document 01's script into 45 and 13", &WORKED, 45, 13);
-    read_within(rt, b"document 01's script into 44 and 13", &WORKED, 44, 13);
+    read_within(rt, "document 01's script into 45 and 14", &WORKED, 45, 14);
+    read_within(rt, "document 01's script into 44 and 14", &WORKED, 44, 14);
+    read_within(rt, "document 01's script into 45 and 13", &WORKED, 45, 13);
+    read_within(rt, "document 01's script into 44 and 13", &WORKED, 44, 13);
 }
 
 fn other_slices(rt: &impl Print) {
-    read_within(rt, b"document 01's script into none", &WORKED, 0, 0);
-    read_within(rt, b"document 01's script into 46 and 15", &WORKED, 46, 15);
-    read_within(rt, b"no event into none", b"\xE8\x07\x02\x01", 0, 0);
+    read_within(rt, "document 01's script into none", &WORKED, 0, 0);
+    read_within(rt, "document 01's script into 46 and 15", &WORKED, 46, 15);
+    read_within(rt, "no event into none", b"\xE8\x07\x02\x01", 0, 0);
 }
 
 fn slices_for_an_elapse(rt: &impl Print) {
     read_within(
         rt,
-        b"an elapse into 2 and 0",
+        "an elapse into 2 and 0",
         b"\xE8\x07\x02\x01\x02\x05",
         2,
         0,
     );
     read_within(
         rt,
-        b"an elapse into 1 and 0",
+        "an elapse into 1 and 0",
         b"\xE8\x07\x02\x01\x02\x05",
         1,
         0,
@@ -997,17 +785,17 @@ fn slices_for_an_elapse(rt: &impl Print) {
 }
 
 fn bad_and_short(rt: &impl Print) {
-    read_within(rt, b"a bad header into none", b"\xE8\x07\x02\x11", 0, 0);
+    read_within(rt, "a bad header into none", b"\xE8\x07\x02\x11", 0, 0);
     read_within(
         rt,
-        b"kind 8 after an elapse into none",
+        "kind 8 after an elapse into none",
         b"\xE8\x07\x02\x01\x02\x05\x08",
         0,
         0,
     );
     read_within(
         rt,
-        b"kind 8 after an elapse into 2 and 0",
+        "kind 8 after an elapse into 2 and 0",
         b"\xE8\x07\x02\x01\x02\x05\x08",
         2,
         0,
@@ -1018,7 +806,7 @@ fn bad_and_short(rt: &impl Print) {
 fn write_single_events(rt: &impl Print) {
     worked(rt);
     headers(rt);
-    numbers(rt);
+    readings(rt);
     kinds(rt);
     later_kinds(rt);
     greatest(rt);

@@ -3,14 +3,14 @@ use mathlib.Core.Path.{◌≡◌, refl, sym, ap, ◌∙◌}
 use Prim.Native.Nat.{ℕ, ◌+◌, ◌*◌, ◌/◌, ◌≤◌, ◌<◌}
 use native.Mathlib.Nat.{add_assoc, add-zero}
 use native.Mathlib.Omega.{arith}
-use mathlib.Core.Bool.{Bool, true, false, not, ◌||◌}
-use mathlib.Core.List.{List, [], ◌∷◌, ◌++◌, append_assoc, append-nil}
+use mathlib.Core.Bool.{Bool, true, false, not}
+use mathlib.Core.List.{List, [], ◌++◌, append_assoc, append-nil}
 use lib.Dec.{eqb}
 use lib.ListN.{length, get_or, take, drop, drop_of_length-le, length-append}
-use borrow.Author.Tests.{not-true, not-false}
+use borrow.Author.Tests.{not-true, ne_eqb}
 use Rattle.base.specs.Columns.{named}
 use Rattle.base.specs.Spliced.{spliced}
-use Rattle.base.proofs.Cases.{cond_both, or_yes, or_no}
+use Rattle.base.proofs.Cases.{cond_both, or-second}
 use Rattle.base.proofs.Lists.{rest_from}
 use Rattle.base.proofs.Spliced.{splice-none, splice-twice}
 use Rattle.numbers.specs.declared.ShortForm.{ShortForm}
@@ -19,8 +19,7 @@ use Rattle.numbers.proofs.Shortest.{number-first, number-most}
 use Rattle.output.specs.Filling.{spliced_within}
 use Rattle.output.proofs.Filled.{put-fits}
 use Rattle.event_form.specs.Form.{values_bytes, values_fit}
-use Rattle.event_form.proofs.Numbers.{unknown-kind}
-use Rattle.script_writer.specs.Parts.{value_bytes, set_mask, mask_over}
+use Rattle.script_writer.specs.Parts.{value_bytes}
 
 -- one number
 
@@ -50,33 +49,6 @@ module _ (mask v at : ℕ) (t : Bool) (p : t ≡ named 1 mask) where
   value_none before q = rw (← p, q) (splice-none before at)
 
 pub ruleset value-laws = (value-place, value-put, value-here, value_none)
-
--- whether a number fits
-
-module _ (a b t : Bool) (p : t ≡ a) where
-  pub fits-named : t ≡ true → true ≡ (a || b)
-  fits-named q = or_yes a b (sym p ∙ q)
-
-  pub fits-other : (r : Bool) → t ≡ false → r ≡ b → r ≡ (a || b)
-  fits-other r q e = or_no a b r (sym p ∙ q) e
-
--- the mask over all numbers of an event, by its kind
-
-module _ (numbers : List ℕ) (kind : ℕ) (e : kind ≡ get_or numbers 0 0) where
-  abbrev table : ℕ → ℕ
-  table n = let set = set_mask (get_or numbers 2 0) in get_or (0 ∷ 7 ∷ 3 ∷ 3 ∷ set ∷ set ∷ 15 ∷ 15 ∷ []) n 0
-
-  pub over-known : (n r : ℕ) → kind ≡ n → r ≡ table n → r ≡ mask_over numbers
-  over-known n r q h = h ∙ ap table (sym q ∙ e)
-
-  pub over-set : (n mask r : ℕ) → kind ≡ n → mask ≡ get_or numbers 2 0 → r ≡ set_mask mask → set_mask (get_or numbers 2 0) ≡ table n → r ≡ mask_over numbers
-  over-set n mask r q m h k = over-known n r q (h ∙ ap set_mask m ∙ k)
-
-  pub over-unknown : (kind ≡ 1 → ⊥) → (kind ≡ 2 → ⊥) → (kind ≡ 3 → ⊥) → (kind ≡ 4 → ⊥) → (kind ≡ 5 → ⊥) → (kind ≡ 6 → ⊥) → (kind ≡ 7 → ⊥)
-      → 0 ≡ mask_over numbers
-  over-unknown a b c d f g h =
-      let set = set_mask (get_or numbers 2 0) in
-      unknown-kind 7 3 3 set set 15 15 kind a b c d f g h ∙ ap table e
 
 -- the numbers from place i on
 
@@ -146,13 +118,18 @@ pub fit-begin : (mask : ℕ) (values : List ℕ) → Fitting mask values mask 0
 fit-begin mask values = record { low = omega arith; same = refl }
 
 module _ (mask : ℕ) (values : List ℕ) (rest i : ℕ) (s : Fitting mask values rest i) where
-  pub fit-again : (t : Bool) → i < length values → t ≡ (named 1 rest || eqb (get_or values i 0) 0) → not t ≡ false → Fitting mask values (rest / 2) (i + 1)
-  unfolding values_fit
-  fit-again t h e q = record { low = omega arith; same = s.same ∙ rw (rest_from values i h, ← e, not-false t q) }
+  module _ (t : Bool) (p : t ≡ named 1 rest) (h : i < length values) where
+    pub fit-named : t ≡ true → Fitting mask values (rest / 2) (i + 1)
+    unfolding values_fit
+    fit-named q = record { low = omega arith; same = s.same ∙ rw (rest_from values i h, ← p, q) }
 
-  pub fit-broken : (t : Bool) → i < length values → t ≡ (named 1 rest || eqb (get_or values i 0) 0) → not t ≡ true → false ≡ values_fit mask values
-  unfolding values_fit
-  fit-broken t h e q = rw (s.same, rest_from values i h, ← e, not-true t q)
+    pub fit-zero : get_or values i 0 ≡ 0 → Fitting mask values (rest / 2) (i + 1)
+    unfolding values_fit
+    fit-zero q = record { low = omega arith; same = s.same ∙ rw (rest_from values i h, q, or-second (named 1 rest) true refl) }
+
+    pub fit-broken : not t ≡ true → (get_or values i 0 ≡ 0 → ⊥) → false ≡ values_fit mask values
+    unfolding values_fit
+    fit-broken q n = rw (s.same, rest_from values i h, ← p, not-true t q, ne_eqb (get_or values i 0) 0 n)
 
   pub fit-done : (r : Bool) → length values ≤ i → r ≡ eqb rest 0 → r ≡ values_fit mask values
   unfolding values_fit

@@ -11,12 +11,12 @@ use lib.Seq.{take_at}
 use mir.Syntax.{w64}
 use mir.Val.{Fits}
 use borrow.Author.Tests.{le-leb, leb-true, not-true, not-false}
+use Rattle.std.specs.Prelude.{Option, Some, None, Result, Ok, Err}
 use Rattle.base.specs.Spliced.{spliced}
 use Rattle.base.proofs.Refusals.{rising-lowest}
 use Rattle.base.proofs.Cases.{and_left, and_right}
 use Rattle.base.proofs.Spliced.{splice-twice}
-use Rattle.answer.specs.Numbers.{number_of}
-use Rattle.output.specs.declared.Written.{Written}
+use Rattle.answer.specs.declared.Refusal.{Refusal}
 use Rattle.output.specs.Filling.{told, told_in, told_by, fill_answer, filled_by}
 use Rattle.output.proofs.Filled.{filled-bytes}
 use Rattle.drive.specs.State.{header_fits}
@@ -28,10 +28,8 @@ use Rattle.event_form.proofs.Flat.{flat-form}
 use Rattle.script.specs.Whole.{most_script_bytes, read_script}
 use Rattle.script_form.specs.Written.{events_bytes, script_bytes, all_holdable, AllWords}
 use Rattle.script_form.proofs.Whole.{script-form}
-use Rattle.script_writer.specs.declared.EventsPut.{EventsPut}
-use Rattle.script_writer.specs.declared.EventsPut.TheVariants as A
 use Rattle.script_writer.specs.Write.{writable, write_answer, write_refusals, script_told, LowestWritten, ReadsTo, ReadsBack}
-use Rattle.script_writer.specs.Parts.{out_of_range, AllPut, PutsEvents}
+use Rattle.script_writer.specs.Parts.{AllPut, PutsEvents}
 use Rattle.script_writer.proofs.Events.{values-most}
 
 -- the header's numbers, all of them named
@@ -43,12 +41,12 @@ header-bytes a b c = refl
 pub header-short : (a b c start : ℕ) → start ≡ 0 + length (values_bytes 7 (a ∷ b ∷ c ∷ [])) → start ≤ most_script_bytes
 header-short a b c start e = omega (arith, e, values-most 7 (a ∷ b ∷ c ∷ []))
 
-all-put : (f : Flat) (before : List ℕ) (start : ℕ) (p : EventsPut) (after : List ℕ) (count : ℕ) → PutsEvents f before start p after → p ≡ A.Is count
+all-put : (f : Flat) (before : List ℕ) (start : ℕ) (p : Option ℕ) (after : List ℕ) (count : ℕ) → PutsEvents f before start p after → p ≡ Some count
     → AllPut f before start count after
-all-put f before start p after count put q = subst (λ (x : EventsPut). PutsEvents f before start x after) q put
+all-put f before start p after count put q = subst (λ (x : Option ℕ). PutsEvents f before start x after) q put
 
 -- the place after the events is within the bytes
-pub count-within : (f : Flat) (before : List ℕ) (start : ℕ) (p : EventsPut) (after : List ℕ) (count : ℕ) → PutsEvents f before start p after → p ≡ A.Is count
+pub count-within : (f : Flat) (before : List ℕ) (start : ℕ) (p : Option ℕ) (after : List ℕ) (count : ℕ) → PutsEvents f before start p after → p ≡ Some count
     → length after ≡ 66660 → count ≤ length after
 count-within f before start p after count put q l = omega (arith, (all-put f before start p after count put q).short, l)
 
@@ -81,13 +79,8 @@ module _ (capacity bands sensors : ℕ) (f : Flat) where
   unfolding write_answer
   told-2 out h = rw h
 
-  -- nothing is said of what was not written
-  pub refused-back : (r : Written) (after : List ℕ) → r ≡ out_of_range → ReadsBack capacity bands sensors f r after
-  refused-back r after q z = let e : ◌≡◌ {A = ℕ} 2 0 = sym (ap (λ (x : Written). number_of x.answer) q) ∙ z in absurd (omega (arith, e))
-
-  pub header_refused : (t : Bool) (r : Written) (out : List ℕ) → t ≡ header_fits capacity bands sensors → not t ≡ true → r ≡ out_of_range
-      → told_in r out ≡ script_told capacity bands sensors f out
-  header_refused t r out e q w = ap (λ (x : Written). told_in x out) w ∙ told-2 out (go f)
+  pub header_refused : (t : Bool) (out : List ℕ) → t ≡ header_fits capacity bands sensors → not t ≡ true → told 2 0 out ≡ script_told capacity bands sensors f out
+  header_refused t out e q = told-2 out (go f)
     where
       go : (g : Flat) → writable capacity bands sensors g ≡ false
       go (flat es) = let h : header_fits capacity bands sensors ≡ false = sym e ∙ not-true t q in rw h
@@ -106,10 +99,10 @@ module _ (capacity bands sensors : ℕ) (f : Flat) where
     fits : header_fits capacity bands sensors ≡ true
     fits = sym h ∙ not-false t y
 
-    pub events-refused : (p : EventsPut) (before after : List ℕ) (r : Written) (out : List ℕ) → PutsEvents f before start p after → p ≡ A.Bad → r ≡ out_of_range
-        → told_in r out ≡ script_told capacity bands sensors f out
-    events-refused p before after r out put q w =
-        ap (λ (x : Written). told_in x out) w ∙ told-2 out (go f (subst (λ (x : EventsPut). PutsEvents f before start x after) q put))
+    pub events-refused : (p : Option ℕ) (before after : List ℕ) (out : List ℕ) → PutsEvents f before start p after → p ≡ None
+        → told 2 0 out ≡ script_told capacity bands sensors f out
+    events-refused p before after out put q =
+        told-2 out (go f (subst (λ (x : Option ℕ). PutsEvents f before start x after) q put))
       where
         go : (g : Flat) → ((es : List Event) → g ≡ flat es → (all_holdable es && leb (start + length (events_bytes es)) most_script_bytes) ≡ false)
             → writable capacity bands sensors g ≡ false
@@ -138,35 +131,35 @@ module _ (capacity bands sensors : ℕ) (f : Flat) where
           le-leb (length (script_bytes capacity bands sensors all.es)) most_script_bytes (omega (arith, all.short, all.place_is, total start s all.es)) in
           rw (fits, all.hold, l)
 
-      all_told : (r : Written) (out after : List ℕ) → told_in r after ≡ filled_by (take count bytes) out → told_in r after ≡ script_told capacity bands sensors f out
+      all_told : (r : Result ℕ Refusal) (out after : List ℕ) → told_in r after ≡ filled_by (take count bytes) out → told_in r after ≡ script_told capacity bands sensors f out
       all_told r out after e =
           e ∙ ap (λ (b : List ℕ). filled_by b out) script-is ∙ able-told capacity bands sensors all.es out able
           ∙ sym (ap (λ (x : Flat). script_told capacity bands sensors x out) all.is)
 
-    module _ (p : EventsPut) (blank header bytes : List ℕ) (count : ℕ) (put : PutsEvents f header start p bytes) (q : p ≡ A.Is count)
-        (first : header ≡ spliced blank 0 (values_bytes 7 (capacity ∷ bands ∷ sensors ∷ []))) (r : Written) (out after : List ℕ)
+    module _ (p : Option ℕ) (blank header bytes : List ℕ) (count : ℕ) (put : PutsEvents f header start p bytes) (q : p ≡ Some count)
+        (first : header ≡ spliced blank 0 (values_bytes 7 (capacity ∷ bands ∷ sensors ∷ []))) (r : Result ℕ Refusal) (out after : List ℕ)
         (e : told_in r after ≡ filled_by (take count bytes) out) where
       pub script-told : told_in r after ≡ script_told capacity bands sensors f out
       script-told = all_told blank header bytes count (all-put f header start p bytes count put q) first r out after e
 
--- ---- what an answer of 0 says, from the writer's equation alone
+-- ---- what a writing that is done says, from the writer's equation alone
 
-module _ (capacity bands sensors : ℕ) (r : Written) (out after : List ℕ) (z : number_of r.answer ≡ 0) where
+module _ (capacity bands sensors count : ℕ) (out after : List ℕ) where
   -- 2 is not 0
-  not-2 : {P : Type 0} → told_in r after ≡ told 2 0 out → P
-  not-2 e = let n : number_of r.answer ≡ 2 = cc in absurd (omega (arith, n, z))
+  not-2 : {P : Type 0} → told_in (Ok count) after ≡ told 2 0 out → P
+  not-2 e = let n : ◌≡◌ {A = ℕ} 0 2 = cc in absurd (omega (arith, n))
 
-  reads-to : (es : List Event) → AllWords es → told_in r after ≡ script_told capacity bands sensors (flat es) out
-      → ReadsTo capacity bands sensors (flat es) (take r.count after)
+  reads-to : (es : List Event) → AllWords es → told_in (Ok count) after ≡ script_told capacity bands sensors (flat es) out
+      → ReadsTo capacity bands sensors (flat es) (take count after)
   unfolding write_answer fill_answer
   reads-to es k e = go (writable capacity bands sensors (flat es)) refl e
     where
       go : (u : Bool) → writable capacity bands sensors (flat es) ≡ u
-          → told_in r after ≡ told_by (cond (not u) 2 (fill_answer (script_bytes capacity bands sensors es) (length out))) (script_bytes capacity bands sensors es) out
-          → ReadsTo capacity bands sensors (flat es) (take r.count after)
+          → told_in (Ok count) after ≡ told_by (cond (not u) 2 (fill_answer (script_bytes capacity bands sensors es) (length out))) (script_bytes capacity bands sensors es) out
+          → ReadsTo capacity bands sensors (flat es) (take count after)
       go false q h = not-2 h
       go true q h =
-          let b = filled-bytes (script_bytes capacity bands sensors es) out (number_of r.answer) r.count after h z in
+          let b = filled-bytes (script_bytes capacity bands sensors es) out 0 count after h refl in
           let m : (all_holdable es && leb (length (script_bytes capacity bands sensors es)) most_script_bytes) ≡ true =
           and_right (header_fits capacity bands sensors) _ q in
           record {
@@ -182,17 +175,23 @@ module _ (capacity bands sensors : ℕ) (r : Written) (out after : List ℕ) (z 
                 });
           }
 
-pub told_back : (capacity bands sensors : ℕ) (fields tokens : List ℕ) (r : Written) (out after : List ℕ) → ((i : ℕ) → Fits w64 (get_or fields i 0))
+  done-back : (fields tokens : List ℕ) → ((i : ℕ) → Fits w64 (get_or fields i 0))
+      → told_in (Ok count) after ≡ script_told capacity bands sensors (events_of fields tokens) out
+      → ReadsTo capacity bands sensors (events_of fields tokens) (take count after)
+  unfolding write_answer
+  done-back fields tokens k e = go (events_of fields tokens) refl e
+    where
+      go : (f : Flat) → events_of fields tokens ≡ f → told_in (Ok count) after ≡ script_told capacity bands sensors f out
+          → ReadsTo capacity bands sensors f (take count after)
+      go no_flat q h = not-2 h
+      go (flat es) q h =
+          let n : fields ≡ all_fields es = (flat-form.no_other fields tokens es q).0 in
+          reads-to es (words es (subst Words n (λ i. omega (arith, k i)))) h
+
+pub told_back : (capacity bands sensors : ℕ) (fields tokens : List ℕ) (r : Result ℕ Refusal) (out after : List ℕ) → ((i : ℕ) → Fits w64 (get_or fields i 0))
     → told_in r after ≡ script_told capacity bands sensors (events_of fields tokens) out → ReadsBack capacity bands sensors (events_of fields tokens) r after
-unfolding write_answer
-told_back capacity bands sensors fields tokens r out after k e z = go (events_of fields tokens) refl e
-  where
-    go : (f : Flat) → events_of fields tokens ≡ f → told_in r after ≡ script_told capacity bands sensors f out
-        → ReadsTo capacity bands sensors f (take r.count after)
-    go no_flat q h = not-2 capacity bands sensors r out after z h
-    go (flat es) q h =
-        let n : fields ≡ all_fields es = (flat-form.no_other fields tokens es q).0 in
-        reads-to capacity bands sensors r out after z es (words es (subst Words n (λ i. omega (arith, k i)))) h
+told_back capacity bands sensors fields tokens (Ok count) out after k e = done-back capacity bands sensors count out after fields tokens k e
+told_back capacity bands sensors fields tokens (Err refusal) out after k e = tt
 
 -- ---- 2 before 11
 

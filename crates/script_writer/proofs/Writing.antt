@@ -3,14 +3,14 @@ use mathlib.Core.Path.{◌≡◌, refl, sym, ap, ◌∙◌, subst}
 use Prim.Native.Nat.{ℕ, ◌+◌, ◌-◌, ◌≤◌, ◌<◌}
 use native.Mathlib.Nat.{add_assoc, add-zero}
 use native.Mathlib.Omega.{arith}
-use mathlib.Core.Bool.{Bool, true, false, ◌&&◌}
+use mathlib.Core.Bool.{Bool, true, false, not, cond, ◌&&◌}
 use mathlib.Core.List.{List, [], ◌∷◌, ◌++◌, append_assoc, append-nil}
-use lib.Dec.{eqb, leb, ltb}
-use lib.ListN.{length, take, drop, length-append, length-drop, drop_of_length-le}
-use lib.Seq.{drop-append_seam, drop-drop, take_all}
-use mir.Syntax.{w64}
-use mir.Val.{Fits}
-use borrow.Author.Tests.{lt-ltb, lt-leb, ne_eqb}
+use lib.Dec.{eqb, leb}
+use lib.ListN.{length, take, drop, length-append, length-drop}
+use lib.Seq.{drop-append_seam, take_all}
+use borrow.Author.Tests.{lt-ltb, lt-leb, eqb-true, eqb-false, not-true, not-false}
+use Rattle.std.specs.Bool.{then_some}
+use Rattle.std.specs.Prelude.{Option, Some, None}
 use Rattle.base.specs.Spliced.{spliced}
 use Rattle.base.proofs.Cases.{and_no, and-false}
 use Rattle.base.proofs.Spliced.{splice-none, splice-twice}
@@ -22,8 +22,7 @@ use Rattle.event_form.proofs.Flat.{next-is, event-takes, events-on}
 use Rattle.script.specs.Whole.{most_script_bytes}
 use Rattle.script_form.specs.Written.{events_bytes, all_holdable}
 use Rattle.script_writer.specs.declared.EventPut.{EventPut}
-use Rattle.script_writer.specs.declared.EventPut.TheVariants as P
-use Rattle.script_writer.specs.Parts.{PutAt, PutsEvent, AllPut}
+use Rattle.script_writer.specs.Parts.{PutAt, PutsEvent, PutsEvents}
 
 -- events in front of those that are left
 abbrev after : List Event → Flat → Flat
@@ -75,23 +74,21 @@ unfolding all_holdable
 one_holds es e h k = rw (hold-append es (e ∷ []), h, k)
 
 -- the part of a slice from a place on
-part-is : (l : List ℕ) (i : ℕ) → i ≤ length l → take (length l - i) (drop i l) ≡ drop i l
-part-is l i h = take_all (length l - i) (drop i l) (omega (arith, length-drop i l))
+part-is : (l : List ℕ) (i : ℕ) → take (length l - i) (drop i l) ≡ drop i l
+part-is l i = take_all (length l - i) (drop i l) (omega (arith, length-drop i l))
 
--- ---- some events are put, up to the place `at`; the numbers from i on and the tokens from `used` on are left
+-- ---- some events are put, up to the place `at`; numbers and tokens are left
 
-pub record Writing (fields tokens before : List ℕ) (start : ℕ) (bytes : List ℕ) (at i used : ℕ) : Type 0 where
+pub record Writing (fields₀ tokens₀ before : List ℕ) (start : ℕ) (bytes : List ℕ) (at : ℕ) (fields tokens : List ℕ) : Type 0 where
   pub es : List Event
-  pub given : events_of fields tokens ≡ after es (events_of (drop i fields) (drop used tokens))
+  pub given : events_of fields₀ tokens₀ ≡ after es (events_of fields tokens)
   pub hold : all_holdable es ≡ true
   pub place_is : at ≡ start + length (events_bytes es)
   pub short : at ≤ most_script_bytes
   pub holds : bytes ≡ spliced before start (events_bytes es)
   pub long : length bytes ≡ length before
-  pub fields-low : i ≤ length fields
-  pub tokens-low : used ≤ length tokens
 
-pub write-begin : (fields tokens before : List ℕ) (start : ℕ) → start ≤ most_script_bytes → Writing fields tokens before start before start 0 0
+pub write-begin : (fields tokens before : List ℕ) (start : ℕ) → start ≤ most_script_bytes → Writing fields tokens before start before start fields tokens
 unfolding events_bytes all_holdable
 write-begin fields tokens before start h = record {
   es = [];
@@ -101,99 +98,94 @@ write-begin fields tokens before start h = record {
   short = h;
   holds = splice-none before start;
   long = refl;
-  fields-low = omega arith;
-  tokens-low = omega arith;
 }
 
-module _ (fields tokens before : List ℕ) (start : ℕ) (bytes : List ℕ) (at i used : ℕ) (s : Writing fields tokens before start bytes at i used) where
+-- no list of events that a script can hold is the whole
+abbrev pub CannotHold : (fields₀ tokens₀ : List ℕ) (start : ℕ) → Type 0
+CannotHold fields₀ tokens₀ start =
+    (all : List Event) → events_of fields₀ tokens₀ ≡ flat all → (all_holdable all && leb (start + length (events_bytes all)) most_script_bytes) ≡ false
+
+module _ (fields₀ tokens₀ before : List ℕ) (start : ℕ) (bytes : List ℕ) (at : ℕ) (fields tokens : List ℕ) (s : Writing fields₀ tokens₀ before start bytes at fields tokens) where
   pub write-room : length before ≡ 66660 → at + 1124 ≤ length bytes
   write-room h = omega (arith, s.short, s.long)
 
   -- an event is left
-  one_more : i < length fields → events_of (drop i fields) (drop used tokens) ≡ and_then (next_in (drop i fields) (drop used tokens)) (λ f t. events_of f t)
-  one_more h =
-      let l : ltb 0 (length (drop i fields)) ≡ true = lt-ltb 0 (length (drop i fields)) (omega (arith, length-drop i fields)) in
-      events-on (drop i fields) (drop used tokens) ∙ rw l
+  one_more : 0 < length fields → events_of fields tokens ≡ and_then (next_in fields tokens) (λ f t. events_of f t)
+  one_more h = events-on fields tokens ∙ rw (lt-ltb 0 (length fields) h)
 
   -- where the whole is a list of events, so is what is left, and it begins with that event
-  begins : i < length fields → (all : List Event) → events_of fields tokens ≡ flat all
-      → (e : Event) × (f : List ℕ) × (t : List ℕ) × (left : List Event) × (next_in (drop i fields) (drop used tokens) ≡ next e f t) × (all ≡ s.es ++ e ∷ left)
+  begins : 0 < length fields → (all : List Event) → events_of fields₀ tokens₀ ≡ flat all
+      → (e : Event) × (f : List ℕ) × (t : List ℕ) × (left : List Event) × (next_in fields tokens ≡ next e f t) × (all ≡ s.es ++ e ∷ left)
   begins h all q =
-      let r = after-flat s.es (events_of (drop i fields) (drop used tokens)) all (sym s.given ∙ q) in
-      go (next_in (drop i fields) (drop used tokens)) refl r.0 (sym (one_more h) ∙ r.1) r.2
+      let r = after-flat s.es (events_of fields tokens) all (sym s.given ∙ q) in
+      go (next_in fields tokens) refl r.0 (sym (one_more h) ∙ r.1) r.2
     where
-      both : (e : Event) (f t : List ℕ) → next_in (drop i fields) (drop used tokens) ≡ next e f t → (left : List Event) → (o : Flat) → in-front e o ≡ flat left
+      both : (e : Event) (f t : List ℕ) → next_in fields tokens ≡ next e f t → (left : List Event) → (o : Flat) → in-front e o ≡ flat left
           → all ≡ s.es ++ left
-          → (e : Event) × (f : List ℕ) × (t : List ℕ) × (left : List Event) × (next_in (drop i fields) (drop used tokens) ≡ next e f t) × (all ≡ s.es ++ e ∷ left)
+          → (e : Event) × (f : List ℕ) × (t : List ℕ) × (left : List Event) × (next_in fields tokens ≡ next e f t) × (all ≡ s.es ++ e ∷ left)
       both e f t p left (flat fs) k w = let y : (e ∷ fs) ≡ left = cc in (e, f, t, fs, p, rw y w)
       both e f t p left no_flat k w = let z : ◌≡◌ {A = ℕ} 0 1 = cc in absurd (omega arith)
 
-      go : (n : Next) → next_in (drop i fields) (drop used tokens) ≡ n → (left : List Event) → and_then n (λ f t. events_of f t) ≡ flat left
+      go : (n : Next) → next_in fields tokens ≡ n → (left : List Event) → and_then n (λ f t. events_of f t) ≡ flat left
           → all ≡ s.es ++ left
-          → (e : Event) × (f : List ℕ) × (t : List ℕ) × (left : List Event) × (next_in (drop i fields) (drop used tokens) ≡ next e f t) × (all ≡ s.es ++ e ∷ left)
+          → (e : Event) × (f : List ℕ) × (t : List ℕ) × (left : List Event) × (next_in fields tokens ≡ next e f t) × (all ≡ s.es ++ e ∷ left)
       go (next e f t) p left k w = both e f t p left (events_of f t) k w
       go none p left k w = let z : ◌≡◌ {A = ℕ} 0 1 = cc in absurd (omega arith)
 
-  -- the writer's event, at what is left
-  abbrev Put : EventPut → List ℕ → Type 0
-  Put r left = PutsEvent (take (length fields - i) (drop i fields)) (take (length tokens - used) (drop used tokens)) bytes at r left
+  some-left : (b : Bool) → b ≡ eqb (length fields) 0 → not b ≡ true → 0 < length fields
+  some-left b e q = let n : eqb (length fields) 0 ≡ false = sym e ∙ not-true b q in omega (arith, eqb-false (length fields) 0 n)
 
-  put-here : (r : EventPut) (left : List ℕ) → Put r left → PutsEvent (drop i fields) (drop used tokens) bytes at r left
-  put-here r left p =
-      subst (λ (t : List ℕ). PutsEvent (drop i fields) t bytes at r left) (part-is tokens used s.tokens-low)
-      (subst (λ (f : List ℕ). PutsEvent f (take (length tokens - used) (drop used tokens)) bytes at r left) (part-is fields i s.fields-low) p)
-
-  pub write-bad : (r : EventPut) (left : List ℕ) → i < length fields → Put r left → r ≡ P.Bad
-      → (all : List Event) → events_of fields tokens ≡ flat all → (all_holdable all && leb (start + length (events_bytes all)) most_script_bytes) ≡ false
+  bad : (r : Option EventPut) (put : List ℕ) → 0 < length fields → PutsEvent fields tokens bytes at r put → r ≡ None → CannotHold fields₀ tokens₀ start
   unfolding all_holdable
-  write-bad r left h p q all w =
+  bad r put h p q all w =
       let b = begins h all w in
-      let k : holdable b.0 ≡ false = subst (λ (x : EventPut). PutsEvent (drop i fields) (drop used tokens) bytes at x left) q (put-here r left p) b.0 b.1 b.2 b.4 in
+      let k : holdable b.0 ≡ false = subst (λ (x : Option EventPut). PutsEvent fields tokens bytes at x put) q p b.0 b.1 b.2 b.4 in
       let f : all_holdable all ≡ false = ap all_holdable b.5 ∙ rw (hold-append s.es (b.0 ∷ b.3), s.hold, k) in
       sym (and_no (all_holdable all) (leb (start + length (events_bytes all)) most_script_bytes) f)
 
+  pub write-bad : (b : Bool) → b ≡ eqb (length fields) 0 → not b ≡ true → (r : Option EventPut) (put : List ℕ) → PutsEvent fields tokens bytes at r put → r ≡ None
+      → (o : Option ℕ) → o ≡ None → PutsEvents (events_of fields₀ tokens₀) before start o put
+  write-bad b e n r put p q o k =
+      subst (λ (x : Option ℕ). PutsEvents (events_of fields₀ tokens₀) before start x put) (sym k) (bad r put (some-left b e n) p q)
+
   -- an event was put
-  module _ (place width count : ℕ) (put : List ℕ) (told : PutAt (drop i fields) (drop used tokens) bytes at place width count put) where
-    split : (drop i fields ≡ fields_of told.e ++ told.f) × (drop used tokens ≡ tokens_of told.e ++ told.t)
-    split = next-is (drop i fields) (drop used tokens) told.e told.f told.t told.given
+  module _ (place width count : ℕ) (put : List ℕ) (told : PutAt fields tokens bytes at place width count put) where
+    split : (fields ≡ fields_of told.e ++ told.f) × (tokens ≡ tokens_of told.e ++ told.t)
+    split = next-is fields tokens told.e told.f told.t told.given
 
-    widths : (i + width ≤ length fields) × (1 ≤ width)
-    widths = (
-      omega (arith, told.width_is, length-drop i fields, ap length split.0, length-append (fields_of told.e) told.f, s.fields-low),
-      omega (arith, told.width_is, event-takes told.e),
-    )
+    width-takes : 1 ≤ width
+    width-takes = omega (arith, told.width_is, event-takes told.e)
 
-    counts : used + count ≤ length tokens
-    counts =
-        omega (arith, told.count-is, length-drop used tokens, ap length split.1, length-append (tokens_of told.e) told.t, s.tokens-low)
+    width-within : width ≤ length fields
+    width-within = omega (arith, told.width_is, ap length split.0, length-append (fields_of told.e) told.f)
 
-    left-fields : drop (i + width) fields ≡ told.f
-    left-fields = rw (← drop-drop width i fields, split.0, told.width_is) (drop-append_seam (fields_of told.e) told.f)
+    count-within : count ≤ length tokens
+    count-within = omega (arith, told.count-is, ap length split.1, length-append (tokens_of told.e) told.t)
 
-    left-tokens : drop (used + count) tokens ≡ told.t
-    left-tokens = rw (← drop-drop count used tokens, split.1, told.count-is) (drop-append_seam (tokens_of told.e) told.t)
+    left-fields : take (length fields - width) (drop width fields) ≡ told.f
+    left-fields = part-is fields width ∙ rw (told.width_is, split.0) (drop-append_seam (fields_of told.e) told.f)
 
-    further : i < length fields → events_of (drop i fields) (drop used tokens) ≡ in-front told.e (events_of (drop (i + width) fields) (drop (used + count) tokens))
-    further h = one_more h ∙ rw (told.given, left-fields, left-tokens)
+    left-tokens : take (length tokens - count) (drop count tokens) ≡ told.t
+    left-tokens = part-is tokens count ∙ rw (told.count-is, split.1) (drop-append_seam (tokens_of told.e) told.t)
 
-    again : i < length fields → place ≤ most_script_bytes → length put ≡ length bytes → start ≤ length before
-        → Writing fields tokens before start put place (i + width) (used + count)
-    again h l k room = record {
+    less : length (take (length fields - width) (drop width fields)) < length fields
+    less = rw (part-is fields width) (omega (arith, length-drop width fields, width-takes, width-within))
+
+    again : 0 < length fields → place ≤ most_script_bytes → length put ≡ length bytes → length before ≡ 66660 → start ≤ most_script_bytes
+        → Writing fields₀ tokens₀ before start put place (take (length fields - width) (drop width fields)) (take (length tokens - count) (drop count tokens))
+    again h l k b m = record {
       es = s.es ++ told.e ∷ [];
-      given = s.given ∙ rw (further h) (after_one s.es told.e (events_of (drop (i + width) fields) (drop (used + count) tokens)));
+      given = s.given ∙ rw (one_more h, told.given, left-fields, left-tokens) (after_one s.es told.e (events_of told.f told.t));
       hold = one_holds s.es told.e s.hold told.holds;
       place_is = rw (told.place_is, s.place_is, one-bytes s.es told.e, length-append (events_bytes s.es) (event_bytes told.e), add_assoc);
       short = l;
       holds =
           rw (told.bytes, s.holds, s.place_is, one-bytes s.es told.e)
-          (splice-twice before start (events_bytes s.es) (event_bytes told.e) room);
+          (splice-twice before start (events_bytes s.es) (event_bytes told.e) (omega (arith, b, m)));
       long = k ∙ s.long;
-      fields-low = widths.0;
-      tokens-low = counts;
     }
 
-    long-script : i < length fields → most_script_bytes < place
-        → (all : List Event) → events_of fields tokens ≡ flat all → (all_holdable all && leb (start + length (events_bytes all)) most_script_bytes) ≡ false
+    long-script : 0 < length fields → most_script_bytes < place → CannotHold fields₀ tokens₀ start
     unfolding events_bytes
     long-script h l all w =
         let b = begins h all w in
@@ -207,48 +199,47 @@ module _ (fields tokens before : List ℕ) (start : ℕ) (bytes : List ℕ) (at 
         lt-leb (start + length (events_bytes all)) most_script_bytes (omega (arith, l, m, n, s.place_is)) in
         rw f (and-false (all_holdable all))
 
-  module _ (r : EventPut) (put : List ℕ) (place width count : ℕ) (p : Put r put) (q : r ≡ P.Is place width count) where
-    told : PutAt (drop i fields) (drop used tokens) bytes at place width count put
-    told = subst (λ (x : EventPut). PutsEvent (drop i fields) (drop used tokens) bytes at x put) q (put-here r put p)
+  module _ (r : Option EventPut) (p : EventPut) (put : List ℕ) (g : PutsEvent fields tokens bytes at r put) (q : r ≡ Some p) where
+    told : PutAt fields tokens bytes at p.place p.width p.count put
+    told = subst (λ (x : Option EventPut). PutsEvent fields tokens bytes at x put) q g
 
-    pub width_fits : Fits w64 (length fields) → Fits w64 (i + width)
-    width_fits b = omega (arith, b, (widths place width count put told).0)
+    pub width_fits : p.width ≤ length fields
+    width_fits = width-within p.place p.width p.count put told
 
-    pub count_fits : Fits w64 (length tokens) → Fits w64 (used + count)
-    count_fits b = omega (arith, b, counts place width count put told)
+    pub count_fits : p.count ≤ length tokens
+    count_fits = count-within p.place p.width p.count put told
 
-    pub write-less : length fields - (i + width) < length fields - i
-    write-less = omega (arith, (widths place width count put told).0, (widths place width count put told).1)
+    pub write-less : length (take (length fields - p.width) (drop p.width fields)) < length fields
+    write-less = less p.place p.width p.count put told
 
-    pub write_again : i < length fields → place ≤ most_script_bytes → length put ≡ length bytes → length before ≡ 66660 → start ≤ most_script_bytes
-        → Writing fields tokens before start put place (i + width) (used + count)
-    write_again h l k b m = again place width count put told h l k (omega (arith, b, m))
+    module _ (b : Bool) (e : b ≡ eqb (length fields) 0) (n : not b ≡ true) where
+      pub write_again : p.place ≤ most_script_bytes → length put ≡ length bytes → length before ≡ 66660 → start ≤ most_script_bytes
+          → Writing fields₀ tokens₀ before start put p.place (take (length fields - p.width) (drop p.width fields)) (take (length tokens - p.count) (drop p.count tokens))
+      write_again = again p.place p.width p.count put told (some-left b e n)
 
-    pub write-long : i < length fields → most_script_bytes < place
-        → (all : List Event) → events_of fields tokens ≡ flat all → (all_holdable all && leb (start + length (events_bytes all)) most_script_bytes) ≡ false
-    write-long h l = long-script place width count put told h l
+      pub write-long : most_script_bytes < p.place → CannotHold fields₀ tokens₀ start
+      write-long = long-script p.place p.width p.count put told (some-left b e n)
 
-  module _ (h : length fields ≤ i) where
-    at-end : events_of (drop i fields) (drop used tokens) ≡ ended (drop used tokens)
-    at-end = events-on (drop i fields) (drop used tokens) ∙ rw (drop_of_length-le fields {i = i} h)
+  -- no number is left
+  module _ (b : Bool) (y : b ≡ eqb (length fields) 0) (n : not b ≡ false) where
+    at-end : events_of fields tokens ≡ ended tokens
+    at-end = let h : length fields ≡ 0 = eqb-true (length fields) 0 (sym y ∙ not-false b n) in events-on fields tokens ∙ rw h
 
-    pub write-left : used < length tokens
-        → (all : List Event) → events_of fields tokens ≡ flat all → (all_holdable all && leb (start + length (events_bytes all)) most_script_bytes) ≡ false
-    write-left l all w =
-        let r = after-flat s.es (events_of (drop i fields) (drop used tokens)) all (sym s.given ∙ w) in
-        let n : eqb (length (drop used tokens)) 0 ≡ false = ne_eqb (length (drop used tokens)) 0 (λ z. omega (arith, z, length-drop used tokens, l)) in
-        let k : no_flat ≡ flat r.0 = sym (at-end ∙ rw n) ∙ r.1 in
+    end-by : (t : Bool) → eqb (length tokens) 0 ≡ t → PutsEvents (events_of fields₀ tokens₀) before start (cond t (Some at) None) bytes
+    end-by true q = record {
+      es = s.es;
+      is = s.given ∙ rw (at-end, q) (after_none s.es);
+      hold = s.hold;
+      place_is = s.place_is;
+      short = s.short;
+      bytes = s.holds;
+    }
+    end-by false q = λ all w.
+        let r = after-flat s.es (events_of fields tokens) all (sym s.given ∙ w) in
+        let k : no_flat ≡ flat r.0 = sym (at-end ∙ rw q) ∙ r.1 in
         let z : ◌≡◌ {A = ℕ} 0 1 = cc in
         absurd (omega arith)
 
-    pub write_done : length tokens ≤ used → AllPut (events_of fields tokens) before start at bytes
-    write_done l =
-        let d : drop used tokens ≡ [] = drop_of_length-le tokens {i = used} l in
-        record {
-          es = s.es;
-          is = s.given ∙ rw (at-end, d) (after_none s.es);
-          hold = s.hold;
-          place_is = s.place_is;
-          short = s.short;
-          bytes = s.holds;
-        }
+    pub write-end : (t : Bool) (r : Option ℕ) → t ≡ eqb (length tokens) 0 → r ≡ then_some t at → PutsEvents (events_of fields₀ tokens₀) before start r bytes
+    write-end true r e q = subst (λ (x : Option ℕ). PutsEvents (events_of fields₀ tokens₀) before start x bytes) (sym q) (end-by true (sym e))
+    write-end false r e q = subst (λ (x : Option ℕ). PutsEvents (events_of fields₀ tokens₀) before start x bytes) (sym q) (end-by false (sym e))

@@ -1,9 +1,7 @@
 -- How the writer goes about a script, for the contracts of private functions.
-use Rattle.std.specs.Prelude.{◌≡◌, true, false, cond, ◌&&◌, ℕ, ◌+◌, ◌*◌, ◌≤◌, List, [], ◌∷◌, leb, ltb, length, get_or}
+use Rattle.std.specs.Prelude.{◌≡◌, true, false, cond, ◌&&◌, ℕ, ◌+◌, ◌*◌, ◌≤◌, List, [], ◌∷◌, leb, ltb, length, get_or, Option, Some, None}
 use Rattle.base.specs.Columns.{named}
 use Rattle.base.specs.Spliced.{spliced}
-use Rattle.answer.specs.declared.Answer.TheVariants.{OutOfRange}
-use Rattle.output.specs.declared.Written.{Written}
 use Rattle.numbers.specs.Groups.{number_bytes}
 use Rattle.sensor_set.specs.Columns.{sensor_masks}
 use Rattle.drive.specs.Events.{Event}
@@ -12,9 +10,6 @@ use Rattle.event_form.specs.Parts.{next, next_in, Flat, flat}
 use Rattle.script.specs.Whole.{most_script_bytes}
 use Rattle.script_form.specs.Written.{events_bytes, all_holdable}
 use Rattle.script_writer.specs.declared.EventPut.{EventPut}
-use Rattle.script_writer.specs.declared.EventPut.TheVariants as P
-use Rattle.script_writer.specs.declared.EventsPut.{EventsPut}
-use Rattle.script_writer.specs.declared.EventsPut.TheVariants as A
 
 -- a value where the mask's lowest bit names it
 abbrev pub value_bytes : ℕ → ℕ → List ℕ
@@ -25,12 +20,8 @@ value_bytes mask v = cond (named 1 mask) (number_bytes v) []
 abbrev pub set_mask : ℕ → ℕ
 set_mask mask = cond (ltb mask sensor_masks) (7 + 8 * mask) 0
 
-abbrev pub mask_over : List ℕ → ℕ
-mask_over numbers = let set = set_mask (get_or numbers 2 0) in get_or (0 ∷ 7 ∷ 3 ∷ 3 ∷ set ∷ set ∷ 15 ∷ 15 ∷ []) (get_or numbers 0 0) 0
-
--- 2 "out of range", and nothing written
-abbrev pub out_of_range : Written
-out_of_range = record { answer = OutOfRange; count = 0 }
+abbrev pub mask_over : (kind : ℕ) → (numbers : List ℕ) → ℕ
+mask_over kind numbers = let set = set_mask (get_or numbers 2 0) in get_or (0 ∷ 7 ∷ 3 ∷ 3 ∷ set ∷ set ∷ 15 ∷ 15 ∷ []) kind 0
 
 -- what one event comes to: the event that the pair begins with is put at the place, or there is none that a script can hold
 pub record PutAt (fields tokens before : List ℕ) (at place width count : ℕ) (after : List ℕ) : Type 0 where
@@ -44,9 +35,9 @@ pub record PutAt (fields tokens before : List ℕ) (at place width count : ℕ) 
   pub count-is : count ≡ length (tokens_of e)
   pub bytes : after ≡ spliced before at (event_bytes e)
 
-abbrev pub PutsEvent : (fields tokens before : List ℕ) → ℕ → EventPut → List ℕ → Type 0
-PutsEvent fields tokens before at (P.Is place width count) after = PutAt fields tokens before at place width count after
-PutsEvent fields tokens before at P.Bad after = (e : Event) (f t : List ℕ) → next_in fields tokens ≡ next e f t → holdable e ≡ false
+abbrev pub PutsEvent : (fields tokens before : List ℕ) → ℕ → Option EventPut → List ℕ → Type 0
+PutsEvent fields tokens before at (Some p) after = PutAt fields tokens before at p.place p.width p.count after
+PutsEvent fields tokens before at None after = (e : Event) (f t : List ℕ) → next_in fields tokens ≡ next e f t → holdable e ≡ false
 
 -- what all events come to: they are put from the place on and end within a script's bytes, or they cannot be
 pub record AllPut (given : Flat) (before : List ℕ) (at place : ℕ) (after : List ℕ) : Type 0 where
@@ -57,7 +48,7 @@ pub record AllPut (given : Flat) (before : List ℕ) (at place : ℕ) (after : L
   pub short : place ≤ most_script_bytes
   pub bytes : after ≡ spliced before at (events_bytes es)
 
-abbrev pub PutsEvents : Flat → (before : List ℕ) → ℕ → EventsPut → List ℕ → Type 0
-PutsEvents given before at (A.Is place) after = AllPut given before at place after
-PutsEvents given before at A.Bad after =
+abbrev pub PutsEvents : Flat → (before : List ℕ) → ℕ → Option ℕ → List ℕ → Type 0
+PutsEvents given before at (Some place) after = AllPut given before at place after
+PutsEvents given before at None after =
     (es : List Event) → given ≡ flat es → (all_holdable es && leb (at + length (events_bytes es)) most_script_bytes) ≡ false

@@ -1,8 +1,7 @@
 -- Document 02, #106: "a writer from header and events to bytes".
-use Rattle.std.specs.Prelude.{◌≡◌, ℕ, Bool, false, not, ◌&&◌, List, [], ◌∷◌, leb, ltb, length, take}
-use Rattle.base.specs.Refusals.{Refusal, when, first_of, LowestOf}
-use Rattle.answer.specs.Numbers.{number_of}
-use Rattle.output.specs.declared.Written.{Written}
+use Rattle.std.specs.Prelude.{◌≡◌, ℕ, Bool, false, not, ◌&&◌, List, [], ◌∷◌, leb, ltb, length, take, Result, Ok, Err}
+use Rattle.base.specs.Refusals.{TableRow, when, first_of, LowestOf}
+use Rattle.answer.specs.declared.Refusal.{Refusal}
 use Rattle.output.specs.Filling.{Told, told_by}
 use Rattle.drive.specs.State.{header_fits}
 use Rattle.drive.specs.Events.{Event}
@@ -23,7 +22,7 @@ bytes_for capacity bands sensors (flat es) = script_bytes capacity bands sensors
 bytes_for capacity bands sensors no_flat = []
 
 -- "An output too short gives 11, after 2"
-abbrev pub write_refusals : (capacity bands sensors : ℕ) → Flat → (room : ℕ) → List Refusal
+abbrev pub write_refusals : (capacity bands sensors : ℕ) → Flat → (room : ℕ) → List TableRow
 write_refusals capacity bands sensors f room =
     when 2 (not (writable capacity bands sensors f))
     ∷ when 11 (ltb room (length (bytes_for capacity bands sensors f)))
@@ -48,5 +47,6 @@ pub record ReadsTo (capacity bands sensors : ℕ) (f : Flat) (script : List ℕ)
   pub given : f ≡ flat events
   pub read : read_script script ≡ accepted capacity bands sensors events
 
-abbrev pub ReadsBack : (capacity bands sensors : ℕ) → Flat → Written → List ℕ → Type 0
-ReadsBack capacity bands sensors f r after = number_of r.answer ≡ 0 → ReadsTo capacity bands sensors f (take r.count after)
+abbrev pub ReadsBack : (capacity bands sensors : ℕ) → Flat → Result ℕ Refusal → List ℕ → Type 0
+ReadsBack capacity bands sensors f (Ok count) after = ReadsTo capacity bands sensors f (take count after)
+ReadsBack capacity bands sensors f (Err refusal) after = Unit {0}

@@ -1,4 +1,4 @@
-// Writing a script from its header and the flat form of its events (document 02, #106).
+//! Writing a script from its header and the flat form of its events.
 #![tactic(auto)]
 
 ghost use Rattle.std.specs.Prelude.{◌≡◌, ◌+◌, ◌*◌, ◌≤◌, ◌<◌, ◌||◌, eqb, length};
@@ -6,43 +6,25 @@ ghost use Rattle.base.specs.Columns.{named};
 ghost use Rattle.base.specs.Spliced.{spliced};
 ghost use Rattle.output.specs.Filling.{told_in};
 ghost use Rattle.event_form.specs.Form.{values_bytes, values_fit};
+ghost use Rattle.event_form.specs.Kinds.{kind_number};
 ghost use Rattle.event_form.specs.Parts.{events_of};
 ghost use Rattle.script_writer.specs.Write.{script_told, ReadsBack};
 ghost use Rattle.script_writer.specs.Parts.{value_bytes, mask_over, PutsEvent, PutsEvents};
 
-use answer::Answer;
-use drive::Drive;
-use output::Written;
+use answer::Refusal;
+use drive::Header;
+use event_form::EventKind;
 use sensor_set::SensorColumns;
 
 // A script's bytes and those of one event more, of which the longest has ten numbers of ten bytes and 1,024 bytes of an expression.
 const ROOM: usize = 66_660;
 
-// An event that was put: the place after it, and how many numbers and bytes it took; or one that no script can hold.
+// An event that was put: the place after it, and how many numbers and bytes it took.
 #[derive(Clone, Copy)]
-pub enum EventPut {
-    Is {
-        place: usize,
-        width: usize,
-        count: usize,
-    },
-    Bad,
-}
-
-// All events that were put: the place after them; or some that no script can hold.
-#[derive(Clone, Copy)]
-pub enum EventsPut {
-    Is(usize),
-    Bad,
-}
-
-fn refused() -> Written
-    ensures { result ≡ Rattle.script_writer.specs.Parts.out_of_range }
-{
-    Written {
-        answer: Answer::OutOfRange,
-        count: 0,
-    }
+struct EventPut {
+    place: usize,
+    width: usize,
+    count: usize,
 }
 
 // Puts a number where the mask's lowest bit names it, and tells the place after it.
@@ -51,14 +33,12 @@ fn put_value(bytes: &mut [u8], at: usize, mask: u64, value: u64) -> usize
     ensures value { result ≡ at + length (value_bytes mask value) }
     ensures bytes { bytes.new ≡ spliced bytes.old at (value_bytes mask value) }
 {
-    if base::names(mask, 1) {
-        let form = numbers::write(value);
-        let groups = form.bytes;
-        let count = form.count;
-        output::put(bytes, at, &groups[..count]);
-        return at + count;
+    if !base::names(mask, 1) {
+        return at;
     }
-    at
+    let form = numbers::write(value);
+    output::put(bytes, at, &form.bytes[..form.count]);
+    at + form.count
 }
 
 // Puts the numbers that the mask names, by rising bit, and tells the place after them.
@@ -69,23 +49,11 @@ fn put_values(bytes: &mut [u8], at: usize, mask: u64, values: &[u64]) -> usize
 {
     let mut place = at;
     let mut rest = mask;
-    let mut i = 0;
-    while i < values.len() {
-        place = put_value(bytes, place, rest, values[i]);
+    for &value in values {
+        place = put_value(bytes, place, rest, value);
         rest /= 2;
-        i += 1;
     }
     place
-}
-
-// Whether a number is 0 where the mask's lowest bit does not name it.
-fn fits(mask: u64, value: u64) -> bool
-    ensures { result ≡ (named 1 mask || eqb value 0) }
-{
-    if base::names(mask, 1) {
-        return true;
-    }
-    value == 0
 }
 
 // Whether every number that the mask does not name is 0, and the mask has no bit more than there are numbers.
@@ -93,30 +61,24 @@ fn all_fit(mask: u64, values: &[u64]) -> bool
     ensures { result ≡ values_fit mask values.now }
 {
     let mut rest = mask;
-    let mut i = 0;
-    while i < values.len() {
-        if !fits(rest, values[i]) {
+    for &value in values {
+        if !base::names(rest, 1) && value != 0 {
             return false;
         }
         rest /= 2;
-        i += 1;
     }
     rest == 0
 }
 
-// The mask over all numbers of an event.
-fn mask_over(numbers: &[u64]) -> u64
-    ensures { result ≡ mask_over numbers.now }
+// The mask over all numbers of an event of a kind, by the mask of a Set among them.
+fn mask_over(kind: EventKind, numbers: &[u64]) -> u64
+    ensures { result ≡ mask_over (kind_number kind) numbers.now }
 {
-    match event_form::field(numbers, 0) {
-        1 => 7,
-        2 => 3,
-        3 => 3,
-        4 => set_mask(event_form::field(numbers, 2)),
-        5 => set_mask(event_form::field(numbers, 2)),
-        6 => 15,
-        7 => 15,
-        _ => 0,
+    match kind {
+        EventKind::Reading => 7,
+        EventKind::Elapse | EventKind::Reset => 3,
+        EventKind::SensorSet | EventKind::BandSet => set_mask(event_form::field(numbers, 2)),
+        EventKind::Geometry | EventKind::Transfer => 15,
     }
 }
 
@@ -131,91 +93,74 @@ fn set_mask(mask: u64) -> u64
 }
 
 // Puts the event with which numbers and tokens begin, where a script can hold it.
-fn put_event(fields: &[u64], tokens: &[u8], bytes: &mut [u8], at: usize) -> EventPut
+fn put_event(fields: &[u64], tokens: &[u8], bytes: &mut [u8], at: usize) -> Option<EventPut>
     requires { at + 1124 ≤ length bytes.old }
     ensures { PutsEvent fields.now tokens.now bytes.old at result bytes.new }
 {
-    let width = event_form::width_of(event_form::field(fields, 0));
-    if width == 0 {
-        return EventPut::Bad;
-    }
-    if fields.len() < width {
-        return EventPut::Bad;
-    }
-    let numbers = &fields[..width];
-    let mask = mask_over(numbers);
+    let kind = EventKind::try_from(event_form::field(fields, 0)).ok()?;
+    let width = kind.width();
+    let numbers = fields.get(..width)?;
+    let mask = mask_over(kind, numbers);
     if !all_fit(mask, numbers) {
-        return EventPut::Bad;
+        return None;
     }
     let size = event_form::count_of(fields);
-    let most = token_reader::MOST_BYTES as u64;
-    if most < size {
-        return EventPut::Bad;
+    if (token_reader::MOST_BYTES as u64) < size {
+        return None;
     }
     let count = size as usize;
-    if tokens.len() < count {
-        return EventPut::Bad;
-    }
+    let expression = tokens.get(..count)?;
     let end = put_values(bytes, at, mask, numbers);
-    output::put(bytes, end, &tokens[..count]);
-    EventPut::Is {
+    output::put(bytes, end, expression);
+    Some(EventPut {
         place: end + count,
         width,
         count,
-    }
+    })
 }
 
-// Puts all events from a place on, where a script can hold them.
-fn put_events(fields: &[u64], tokens: &[u8], bytes: &mut [u8], start: usize) -> EventsPut
+// Puts all events from a place on, where a script can hold them, and tells the place after them.
+fn put_events(
+    mut fields: &[u64],
+    mut tokens: &[u8],
+    bytes: &mut [u8],
+    start: usize,
+) -> Option<usize>
     requires { (start ≤ 65536) × (length bytes.old ≡ 66660) }
-    ensures { PutsEvents (events_of fields.now tokens.now) bytes.old start result bytes.new }
+    ensures { PutsEvents (events_of fields.entry.now tokens.entry.now) bytes.old start result bytes.new }
 {
     let mut at = start;
-    let mut i = 0;
-    let mut used = 0;
-    while i < fields.len() {
-        let EventPut::Is {
-            place,
-            width,
-            count,
-        } = put_event(&fields[i..], &tokens[used..], bytes, at)
-        else {
-            return EventsPut::Bad;
-        };
-        if script::MOST_BYTES < place {
-            return EventsPut::Bad;
+    while !fields.is_empty() {
+        let put = put_event(fields, tokens, bytes, at)?;
+        if script::MOST_BYTES < put.place {
+            return None;
         }
-        at = place;
-        i += width;
-        used += count;
+        at = put.place;
+        fields = &fields[put.width..];
+        tokens = &tokens[put.count..];
     }
-    if used < tokens.len() {
-        return EventsPut::Bad;
-    }
-    EventsPut::Is(at)
+    tokens.is_empty().then_some(at)
 }
 
-// Writes a script from the output's start: the header, and the events of which fields and tokens are the flat form. A refusal leaves the output as it
-// was.
+// stays: (1) the events as fields and tokens, two slices: the flat form of the C interface
+/// Writes a script from the output's start, and tells how many bytes it has: the header, and the events of which fields and tokens are the flat form.
+/// Out of range is answered to a header out of range, to what is the flat form of no events, to an event that no script can hold, and to a script above
+/// 65,536 bytes; and then a short buffer where the output is too short. A refusal leaves the output as it was.
 pub fn write(
-    capacity: u64,
-    bands: u64,
-    sensors: u64,
+    header: Header,
     fields: &[u64],
     tokens: &[u8],
     out: &mut [u8],
-) -> Written
-    ensures out_after { told_in result out.new ≡ script_told capacity bands sensors (events_of fields.now tokens.now) out.old }
-    ensures back { ReadsBack capacity bands sensors (events_of fields.now tokens.now) result out.new }
+) -> Result<usize, Refusal>
+    ensures out_after { told_in result out.new ≡ script_told header.capacity header.bands header.sensors (events_of fields.now tokens.now) out.old }
+    ensures back { ReadsBack header.capacity header.bands header.sensors (events_of fields.now tokens.now) result out.new }
 {
-    if !Drive::in_range(capacity, bands, sensors) {
-        return refused();
+    if !header.fits() {
+        return Err(Refusal::OutOfRange);
     }
-    let header = [capacity, bands, sensors];
     let mut bytes = [0; ROOM];
-    let start = put_values(&mut bytes, 0, 7, &header);
-    let EventsPut::Is(count) = put_events(fields, tokens, &mut bytes, start) else {
-        return refused();
-    };
+    let numbers = [header.capacity, header.bands, header.sensors];
+    let start = put_values(&mut bytes, 0, 7, &numbers);
+    let count = put_events(fields, tokens, &mut bytes, start).ok_or(Refusal::OutOfRange)?;
     output::fill(&bytes[..count], out)
 }

@@ -1,13 +1,12 @@
 -- The bounds of timers: no timeout and no timer of a sensor that events reach exceeds the range of timeouts.
 use Prim.Native.Nat.{ℕ, ◌-◌, ◌≤◌}
 use native.Mathlib.Omega.{arith}
-use mathlib.Core.Bool.{Bool, true, false, cond, beq}
+use mathlib.Core.Bool.{Bool, cond, beq}
 use lib.Dec.{eqb, ltb}
 use Rattle.base.proofs.Cases.{cond_both}
 use Rattle.phases.specs.declared.Phase.{Phase}
 use Rattle.phases.specs.declared.Phase.TheVariants.{SS0, ST0, SS1, ST1, SS2}
-use Rattle.phases.specs.declared.Move.{Move}
-use Rattle.phases.specs.declared.Move.TheVariants.{Stays, Enters}
+use Rattle.std.specs.Prelude.{Option, Some, None}
 use Rattle.phases.specs.declared.Cause.{Cause}
 use Rattle.phases.specs.declared.Cause.TheVariants.{TimerEnds, Disabled, PowerCycle}
 use Rattle.phases.specs.Phases.{move_of, level_after}
@@ -28,9 +27,9 @@ entered SS1 l s h = omega arith
 entered ST1 l s h = h.off
 entered SS2 l s h = omega arith
 
-moved-timed : (m : Move) (l : Bool) (s : Sensor) → Timed s → Timed (moved_by m (with_level l s))
-moved-timed Stays l s h = record { on = h.on; off = h.off; timer = h.timer }
-moved-timed (Enters p) l s h = record { on = h.on; off = h.off; timer = entered p l s h }
+moved-timed : (m : Option Phase) (l : Bool) (s : Sensor) → Timed s → Timed (moved_by m (with_level l s))
+moved-timed None l s h = record { on = h.on; off = h.off; timer = h.timer }
+moved-timed (Some p) l s h = record { on = h.on; off = h.off; timer = entered p l s h }
 
 step-timed : (c : Cause) (s : Sensor) → Timed s → Timed (after_cause c s)
 unfolding after_cause
@@ -41,13 +40,13 @@ unfolding judged turned_to
 judged-timed s h =
     cond_both Timed (beq (level_given s) s.level) s (after_cause (turn_cause (level_given s) s) s) h (step-timed (turn_cause (level_given s) s) s h)
 
-kept-timed : (has : Bool) (v : ℕ) (s : Sensor) → Timed s → Timed (with_reading has v s)
-kept-timed has v s h = record { on = h.on; off = h.off; timer = h.timer }
+kept-timed : (last : Option ℕ) (s : Sensor) → Timed s → Timed (with_reading last s)
+kept-timed last s h = record { on = h.on; off = h.off; timer = h.timer }
 
 pub reading-timed : (v : ℕ) (s : Sensor) → Timed s → Timed (reading_of v s)
 unfolding reading_of
 reading-timed v s h =
-    cond_both Timed (ltb greatest_reading v) s (judged (keeping v s)) h (judged-timed (keeping v s) (kept-timed true v s h))
+    cond_both Timed (ltb greatest_reading v) s (judged (keeping v s)) h (judged-timed (keeping v s) (kept-timed (Some v) s h))
 
 pub tick-timed : (s : Sensor) → Timed s → Timed (sensor_tick s)
 unfolding sensor_tick
@@ -58,7 +57,7 @@ tick-timed s h =
 
 pub cycle-timed : (s : Sensor) → Timed s → Timed (power_cycle_of s)
 unfolding power_cycle_of
-cycle-timed s h = kept-timed false 0 (after_cause PowerCycle s) (step-timed PowerCycle s h)
+cycle-timed s h = kept-timed None (after_cause PowerCycle s) (step-timed PowerCycle s h)
 
 pub enable-timed : (s : Sensor) → Timed s → Timed (enable_of s)
 unfolding enable_of

@@ -1,59 +1,57 @@
 -- The last reading of a sensor, and the record `Judging`. The level of every sensor that events reach is the one that its last reading gives: the
 -- fresh one's is, and every method keeps it so.
-use mathlib.Core.Path.{◌≡◌, refl, sym, ap, ◌∙◌}
+use mathlib.Core.Path.{◌≡◌, refl, sym, ap, subst, ◌∙◌}
 use Prim.Native.Nat.{ℕ, ◌-◌, ◌≤◌, ◌<◌}
-use native.Mathlib.Omega.{arith}
-use mathlib.Core.Bool.{Bool, true, false, cond, beq, true≢false}
+use mathlib.Core.Bool.{Bool, true, false, cond, beq}
 use lib.Dec.{eqb, ltb}
 use borrow.Author.Tests.{ltb-false, lt-ltb, le-ltb}
 use Rattle.base.proofs.Cases.{cond_either, cond-true, cond-false}
 use Rattle.phases.specs.declared.Phase.{Phase}
 use Rattle.phases.specs.declared.Phase.TheVariants.{SS0, SS2}
-use Rattle.phases.specs.declared.Move.{Move}
-use Rattle.phases.specs.declared.Move.TheVariants.{Stays, Enters}
+use Rattle.std.specs.Prelude.{Option, Some, None}
 use Rattle.phases.specs.declared.Cause.{Cause}
 use Rattle.phases.specs.declared.Cause.TheVariants.{TimerEnds, EnabledTrueAtOnce, EnabledTrueWaiting, EnabledFalse, Disabled}
 use Rattle.phases.specs.Phases.{when_disabled, move_of, level_after}
 use Rattle.sensor.specs.declared.single.Sensor.{Sensor}
-use Rattle.sensor.specs.Level.{greatest_reading, level_rule}
-use Rattle.sensor.specs.Single.{fresh_sensor, moved, with_level, with_timer, with_reading, keeping, on_of, off_of, level_given, judged, moved_by, after_cause, turn_cause, turned_to, reading_of, enable_cause, enable_of, disable_of, power_cycle_of, sensor_tick}
-use Rattle.sensor.specs.Sound.{Kept, UpToDate}
+use Rattle.sensor.specs.Level.{greatest_reading}
+use Rattle.sensor.specs.Single.{fresh_sensor, moved, with_level, with_timer, with_reading, keeping, on_of, off_of, level_by, level_given, judged, moved_by, after_cause, turn_cause, turned_to, reading_of, enable_cause, enable_of, disable_of, power_cycle_of, sensor_tick}
+use Rattle.sensor.specs.Sound.{InRange, Kept, UpToDate}
 use Rattle.sensor.specs.Judging.{LastRead, NoReading, SameReading, Judging}
 use Rattle.sensor.proofs.Levels.{rule-again}
 use Rattle.sensor.proofs.Motion.{same-level, move-level, turn_level, turned-level}
 
 pub fresh-up-to-date : UpToDate fresh_sensor
 unfolding fresh_sensor level_given
-fresh-up-to-date = record { level = refl; kept = record { range = omega arith; blank = λ e. refl } }
+fresh-up-to-date = record { level = refl; kept = record { range = tt } }
 
 -- ---- a cause moves the level, the phase, the condition and the timer, and neither a column nor the last reading
 
 -- the level that the last reading gives, from another level before
 abbrev from : Sensor → Bool → Bool
-from s l = cond s.has_reading (level_rule (on_of s) (off_of s) s.last_reading l) l
+from s l = level_by (on_of s) (off_of s) s.last_reading l
 
 step-level : (c : Cause) (s : Sensor) → level_given (after_cause c s) ≡ from s (level_after c s.level)
 unfolding after_cause level_given
 step-level c s = go (move_of s.phase c)
   where
-    go : (m : Move) → level_given (moved_by m (with_level (level_after c s.level) s)) ≡ from s (level_after c s.level)
-    go Stays = refl
-    go (Enters p) = refl
+    go : (m : Option Phase) → level_given (moved_by m (with_level (level_after c s.level) s)) ≡ from s (level_after c s.level)
+    go None = refl
+    go (Some p) = refl
 
 step-reading : (c : Cause) (s : Sensor) → SameReading s (after_cause c s)
 unfolding after_cause
 step-reading c s = go (move_of s.phase c)
   where
-    go : (m : Move) → SameReading s (moved_by m (with_level (level_after c s.level) s))
-    go Stays = record { some = refl; value = refl }
-    go (Enters p) = record { some = refl; value = refl }
+    go : (m : Option Phase) → SameReading s (moved_by m (with_level (level_after c s.level) s))
+    go None = record { value = refl }
+    go (Some p) = record { value = refl }
 
 after-level : (c : Cause) (s : Sensor) → (after_cause c s).level ≡ level_after c s.level
 unfolding after_cause
 after-level c s = move-level (move_of s.phase c) (with_level (level_after c s.level) s)
 
 same_kept : (s t : Sensor) → SameReading s t → Kept s → Kept t
-same_kept s t e h = record { range = omega (arith, h.range, e.value); blank = λ n. e.value ∙ h.blank (sym e.some ∙ n) }
+same_kept s t e h = record { range = subst InRange (sym e.value) h.range }
 
 -- a cause that leaves the level as it was
 step-up-to-date : (c : Cause) (s : Sensor) → level_after c s.level ≡ s.level → UpToDate s → UpToDate (after_cause c s)
@@ -76,18 +74,18 @@ turned-given l s = go (beq l s.level) refl
 judged-reading : (s : Sensor) → SameReading s (judged s)
 unfolding judged turned_to
 judged-reading s =
-    cond_either (SameReading s) (beq (level_given s) s.level) s (after_cause (turn_cause (level_given s) s) s) (λ e. record { some = refl; value = refl })
+    cond_either (SameReading s) (beq (level_given s) s.level) s (after_cause (turn_cause (level_given s) s) s) (λ e. record { value = refl })
     (λ e. step-reading (turn_cause (level_given s) s) s)
 
 -- to judge a last reading once more changes nothing
-given-again : (has : Bool) (on off v : ℕ) (l : Bool) → let m = cond has (level_rule on off v l) l in cond has (level_rule on off v m) m ≡ m
-given-again true on off v l = rule-again on off v l
-given-again false on off v l = refl
+given-again : (on off : ℕ) (last : Option ℕ) (l : Bool) → let m = level_by on off last l in level_by on off last m ≡ m
+given-again on off None l = refl
+given-again on off (Some v) l = rule-again on off v l
 
 judged-level : (s : Sensor) → level_given (judged s) ≡ (judged s).level
 unfolding judged level_given
 judged-level s =
-    turned-given (level_given s) s ∙ given-again s.has_reading (on_of s) (off_of s) s.last_reading s.level ∙ sym (turned-level (level_given s) s)
+    turned-given (level_given s) s ∙ given-again (on_of s) (off_of s) s.last_reading s.level ∙ sym (turned-level (level_given s) s)
 
 pub judged-up-to-date : (s : Sensor) → Kept s → UpToDate (judged s)
 judged-up-to-date s h = record { level = judged-level s; kept = same_kept s (judged s) (judged-reading s) h }
@@ -96,13 +94,13 @@ pub reading-up-to-date : (v : ℕ) (s : Sensor) → UpToDate s → UpToDate (rea
 unfolding reading_of
 reading-up-to-date v s h =
     cond_either UpToDate (ltb greatest_reading v) s (judged (keeping v s)) (λ e. h)
-    (λ e. judged-up-to-date (keeping v s) (record { range = ltb-false greatest_reading v e; blank = λ n. absurd (true≢false n) }))
+    (λ e. judged-up-to-date (keeping v s) (record { range = ltb-false greatest_reading v e }))
 
 -- ---- ticks, enabling, disabling, power cycle
 
 lowered-up-to-date : (t : ℕ) (s : Sensor) → UpToDate s → UpToDate (with_timer t s)
 unfolding level_given
-lowered-up-to-date t s h = record { level = h.level; kept = record { range = h.kept.range; blank = h.kept.blank } }
+lowered-up-to-date t s h = record { level = h.level; kept = record { range = h.kept.range } }
 
 pub tick-up-to-date : (s : Sensor) → UpToDate s → UpToDate (sensor_tick s)
 unfolding sensor_tick
@@ -114,9 +112,9 @@ tick-up-to-date s h =
 tick-reading : (s : Sensor) → SameReading s (sensor_tick s)
 unfolding sensor_tick
 tick-reading s =
-    cond_either (SameReading s) (eqb s.timer 0) s _ (λ e. record { some = refl; value = refl })
+    cond_either (SameReading s) (eqb s.timer 0) s _ (λ e. record { value = refl })
     (λ e. cond_either (SameReading s) (eqb s.timer 1) (after_cause TimerEnds s) (with_timer (s.timer - 1) s)
-    (λ f. step-reading TimerEnds s) (λ f. record { some = refl; value = refl }))
+    (λ f. step-reading TimerEnds s) (λ f. record { value = refl }))
 
 enable-keeps : (s : Sensor) → level_after (enable_cause s) s.level ≡ s.level
 enable-keeps s = go s.level (eqb s.on_timeout 0)
@@ -151,7 +149,7 @@ enable-false s p l =
 
 pub power-cycle-up-to-date : (s : Sensor) → UpToDate s → UpToDate (power_cycle_of s)
 unfolding power_cycle_of level_given
-power-cycle-up-to-date s h = record { level = refl; kept = record { range = omega arith; blank = λ e. refl } }
+power-cycle-up-to-date s h = record { level = refl; kept = record { range = tt } }
 
 -- ---- document 02, #101, in its own words
 
@@ -167,7 +165,7 @@ kept : (v : ℕ) (s : Sensor) → v ≤ greatest_reading → LastRead v (reading
 kept v s h =
     let e = granted v s h in
     let k = judged-reading (keeping v s) in
-    record { some = ap (λ (x : Sensor). x.has_reading) e ∙ k.some; value = ap (λ (x : Sensor). x.last_reading) e ∙ k.value }
+    record { value = ap (λ (x : Sensor). x.last_reading) e ∙ k.value }
 
 none_first : NoReading fresh_sensor
 unfolding fresh_sensor
@@ -178,7 +176,7 @@ unfolding power_cycle_of
 none_after s = refl
 
 again : (v : ℕ) (s : Sensor) → LastRead v s → v ≤ greatest_reading → judged s ≡ reading_of v s
-again v s e h = (λ i. judged (with_reading (e.some i) (e.value i) s)) ∙ sym (granted v s h)
+again v s e h = ap (λ (last : Option ℕ). judged (with_reading last s)) e.value ∙ sym (granted v s h)
 
 -- a level that is the given one stays, and all else with it
 judged-same : (s : Sensor) → level_given s ≡ s.level → judged s ≡ s
@@ -191,7 +189,7 @@ judged-same s e = ap (λ (l : Bool). turned_to l s) e ∙ go s.level
 
 no-reading : (s : Sensor) → NoReading s → judged s ≡ s
 unfolding level_given
-no-reading s e = judged-same s (sym (cond-false s.has_reading _ s.level _ e refl))
+no-reading s e = judged-same s (ap (λ (last : Option ℕ). level_by (on_of s) (off_of s) last s.level) e)
 
 pub judging : Judging
 judging = record {

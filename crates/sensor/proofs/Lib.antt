@@ -1,9 +1,8 @@
-pub mod Arms
+pub mod Refused
 pub mod Motion
 pub mod Ticks
 pub mod Soundness
 pub mod Levels
 pub mod Judging
-pub mod Lag
 pub mod Bounds
 pub mod Worked

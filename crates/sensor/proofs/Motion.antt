@@ -1,32 +1,18 @@
 -- What single moves do to a sensor: laws of `after_cause` by cause.
 use mathlib.Core.Path.{◌≡◌, refl, sym, ap, ◌∙◌}
 use mathlib.Core.Bool.{Bool, true, false, cond, beq, false≢true}
-use Prim.Native.Nat.{ℕ, ◌-◌, ◌≤◌, ◌<◌}
-use native.Mathlib.Omega.{arith}
 use lib.Dec.{eqb}
 use borrow.Author.Tests.{eq-eqb, ne_eqb}
 use Rattle.base.proofs.Cases.{cond-false}
 use Rattle.phases.specs.declared.Phase.{Phase}
 use Rattle.phases.specs.declared.Phase.TheVariants.{SS0, ST0, SS1, ST1, SS2}
-use Rattle.phases.specs.declared.Move.{Move}
-use Rattle.phases.specs.declared.Move.TheVariants.{Stays, Enters}
+use Rattle.std.specs.Prelude.{Option, Some, None}
 use Rattle.phases.specs.declared.Cause.{Cause}
-use Rattle.phases.specs.declared.Cause.TheVariants.{
-  TrueAtOnce,
-  TrueWaiting,
-  FalseAtOnce,
-  FalseWaiting,
-  TimerEnds,
-  EnabledTrueAtOnce,
-  EnabledTrueWaiting,
-  EnabledFalse,
-  PowerCycle,
-}
+use Rattle.phases.specs.declared.Cause.TheVariants.{TrueAtOnce, TrueWaiting, FalseAtOnce, FalseWaiting, TimerEnds, EnabledTrueAtOnce, EnabledTrueWaiting, EnabledFalse}
 use Rattle.sensor.specs.declared.single.Sensor.{Sensor}
-use Rattle.phases.specs.Phases.{is_enabled, when_enabled, when_disabled, power_cycled, condition_in, move_of, settled, level_after}
-use Rattle.sensor.specs.Single.{fresh_sensor, standing, moved, forgetting, moved_by, with_level, with_timer, after_cause, timer_in, turn_cause, turned_to, enable_of, sensor_tick, power_cycle_of}
+use Rattle.phases.specs.Phases.{is_enabled, when_enabled, when_disabled, move_of, settled, level_after}
+use Rattle.sensor.specs.Single.{fresh_sensor, moved, moved_by, with_level, after_cause, timer_in, turn_cause, turned_to, enable_of, sensor_tick, power_cycle_of}
 use Rattle.sensor.specs.Turning.{timeout_to, waiting_at, settled_at, Turning}
-use Rattle.sensor.specs.Parts.{lowered_by}
 
 settled-off : (p : Phase) (s : Sensor) → timer_in (settled p) s ≡ 0
 settled-off SS0 s = refl
@@ -42,8 +28,8 @@ ended-stops s = settled-off s.phase s
 
 -- ---- a turn of the level, by side
 
-enters-enabled : (p q : Phase) → is_enabled p ≡ true → when_enabled p q ≡ Enters q
-enters-enabled p q e = ap (λ (b : Bool). cond b (Enters q) Stays) e
+enters-enabled : (p q : Phase) → is_enabled p ≡ true → when_enabled p q ≡ Some q
+enters-enabled p q e = ap (λ (b : Bool). cond b (Some q) None) e
 
 turn-cause : (l : Bool) (s : Sensor) (b : Bool) → eqb (timeout_to l s) 0 ≡ b
     → turn_cause l s ≡ cond l (cond b TrueAtOnce TrueWaiting) (cond b FalseAtOnce FalseWaiting)
@@ -89,9 +75,9 @@ same-level false false e = refl
 
 -- ---- the level after a turn
 
-pub move-level : (m : Move) (s : Sensor) → (moved_by m s).level ≡ s.level
-move-level Stays s = refl
-move-level (Enters p) s = refl
+pub move-level : (m : Option Phase) (s : Sensor) → (moved_by m s).level ≡ s.level
+move-level None s = refl
+move-level (Some p) s = refl
 
 pub turn_level : (l : Bool) (s : Sensor) → level_after (turn_cause l s) s.level ≡ l
 turn_level true s = go (eqb s.on_timeout 0)
@@ -127,7 +113,7 @@ unfolding enable_of after_cause move_of
 enable-again s e = go s.level
   where
     stay : (q : Phase) → moved_by (when_disabled s.phase q) s ≡ s
-    stay q = ap (λ (b : Bool). moved_by (cond b Stays (Enters q)) s) e
+    stay q = ap (λ (b : Bool). moved_by (cond b None (Some q)) s) e
 
     go : (l : Bool) → after_cause (cond l (cond (eqb s.on_timeout 0) EnabledTrueAtOnce EnabledTrueWaiting) EnabledFalse) s ≡ s
     go true = at (eqb s.on_timeout 0)
@@ -154,13 +140,13 @@ is_waiting SS1 = false
 is_waiting ST1 = true
 is_waiting SS2 = false
 
-move-keeps : (m : Move) (s : Sensor) → is_waiting (moved_by m s).phase ≡ true → (moved_by m s).condition ≡ s.condition
-move-keeps Stays s e = refl
-move-keeps (Enters SS0) s e = absurd (false≢true e)
-move-keeps (Enters ST0) s e = refl
-move-keeps (Enters SS1) s e = absurd (false≢true e)
-move-keeps (Enters ST1) s e = refl
-move-keeps (Enters SS2) s e = absurd (false≢true e)
+move-keeps : (m : Option Phase) (s : Sensor) → is_waiting (moved_by m s).phase ≡ true → (moved_by m s).condition ≡ s.condition
+move-keeps None s e = refl
+move-keeps (Some SS0) s e = absurd (false≢true e)
+move-keeps (Some ST0) s e = refl
+move-keeps (Some SS1) s e = absurd (false≢true e)
+move-keeps (Some ST1) s e = refl
+move-keeps (Some SS2) s e = absurd (false≢true e)
 
 -- a sensor that waits after a cause has the condition of before it
 pub step_keeps : (c : Cause) (s : Sensor) → is_waiting (after_cause c s).phase ≡ true → (after_cause c s).condition ≡ s.condition
@@ -177,83 +163,6 @@ pub fresh-tick : sensor_tick fresh_sensor ≡ fresh_sensor
 unfolding sensor_tick fresh_sensor
 fresh-tick = refl
 
-pub fresh-lowered : (k : ℕ) → lowered_by k fresh_sensor ≡ fresh_sensor
-unfolding fresh_sensor
-fresh-lowered k = let e : 0 - k ≡ 0 = omega arith in ap (λ (t : ℕ). with_timer t fresh_sensor) e
-
 pub fresh-power-cycle : power_cycle_of fresh_sensor ≡ fresh_sensor
 unfolding power_cycle_of after_cause move_of fresh_sensor
 fresh-power-cycle = refl
-
--- ---- what a power cycle leaves as it is
-
-as-it-is : (p : Phase) (s : Sensor) → s.level ≡ false → s.phase ≡ p → s.condition ≡ false → s.timer ≡ 0 → s.has_reading ≡ false → s.last_reading ≡ 0
-    → standing false p false 0 false 0 s ≡ s
-as-it-is p s a b c d e f = λ i. standing (sym a i) (sym b i) (sym c i) (sym d i) (sym e i) (sym f i) s
-
--- nothing is TRUE, no timer runs and there is no last reading, in a phase that a power cycle enters anew
-module _ (s : Sensor) (a : s.level ≡ false) (c : s.condition ≡ false) (d : s.timer ≤ 0) (e : s.has_reading ≡ false) (f : s.last_reading ≤ 0) where
-  zero-timer : s.timer ≡ 0
-  zero-timer = omega (arith, d)
-
-  zero-reading : s.last_reading ≡ 0
-  zero-reading = omega (arith, f)
-
-  pub rests-disabled : s.phase ≡ SS0 → power_cycle_of s ≡ s
-  unfolding power_cycle_of after_cause move_of
-  rests-disabled p =
-      ap (λ (q : Phase). forgetting (moved_by (move_of q PowerCycle) (with_level false s))) p ∙ as-it-is SS0 s a p c zero-timer e zero-reading
-
-  pub rests-settled : s.phase ≡ SS2 → power_cycle_of s ≡ s
-  unfolding power_cycle_of after_cause move_of
-  rests-settled p =
-      ap (λ (q : Phase). forgetting (moved_by (move_of q PowerCycle) (with_level false s))) p ∙ as-it-is SS2 s a p c zero-timer e zero-reading
-
--- the phases that a power cycle enters
-abbrev is_entered : Phase → Bool
-is_entered SS0 = true
-is_entered ST0 = false
-is_entered SS1 = false
-is_entered ST1 = false
-is_entered SS2 = true
-
--- and nothing else: a power cycle that leaves the sensor as it is finds nothing TRUE, no timer, no last reading, and one of the two phases
-module _ (s : Sensor) (h : power_cycle_of s ≡ s) where
-  cycled-phase : s.phase ≡ power_cycled s.phase
-  unfolding power_cycle_of after_cause move_of
-  cycled-phase = sym (ap (λ (x : Sensor). x.phase) h)
-
-  pub level-told : s.level ≡ true → false ≡ true
-  unfolding power_cycle_of after_cause move_of
-  level-told e = ap (λ (x : Sensor). x.level) h ∙ e
-
-  pub condition-told : s.condition ≡ true → false ≡ true
-  unfolding power_cycle_of after_cause move_of
-  condition-told e = sym (none (is_enabled s.phase)) ∙ ap (λ (x : Sensor). x.condition) h ∙ e
-    where
-      none : (b : Bool) → condition_in (cond b SS2 SS0) s.condition ≡ false
-      none true = refl
-      none false = refl
-
-  pub timer-told : 0 < s.timer → false ≡ true
-  unfolding power_cycle_of after_cause move_of
-  timer-told l = absurd (omega (arith, l, sym (none (is_enabled s.phase)) ∙ ap (λ (x : Sensor). x.timer) h))
-    where
-      none : (b : Bool) → timer_in (cond b SS2 SS0) (with_level false s) ≡ 0
-      none true = refl
-      none false = refl
-
-  pub reading-told : s.has_reading ≡ true → false ≡ true
-  unfolding power_cycle_of
-  reading-told e = ap (λ (x : Sensor). x.has_reading) h ∙ e
-
-  pub blank-told : 0 < s.last_reading → false ≡ true
-  unfolding power_cycle_of
-  blank-told l = absurd (omega (arith, l, ap (λ (x : Sensor). x.last_reading) h))
-
-  pub phase-told : (p : Phase) → s.phase ≡ p → is_entered p ≡ false → false ≡ true
-  phase-told p e q = sym q ∙ ap is_entered (sym e ∙ cycled-phase) ∙ both (is_enabled s.phase)
-    where
-      both : (b : Bool) → is_entered (cond b SS2 SS0) ≡ true
-      both true = refl
-      both false = refl

@@ -1,15 +1,14 @@
 -- Every sensor that events reach is sound: the fresh one is, and every method keeps it.
 use mathlib.Core.Path.{◌≡◌, refl, subst}
 use mathlib.Core.Bool.{Bool, true, false, cond, beq}
-use Prim.Native.Nat.{ℕ, zero, suc, ◌-◌}
+use Prim.Native.Nat.{ℕ, ◌-◌}
 use native.Mathlib.Omega.{arith}
 use lib.Dec.{eqb, ltb}
 use borrow.Author.Tests.{eqb-false}
 use Rattle.base.proofs.Cases.{cond_either}
 use Rattle.phases.specs.declared.Phase.{Phase}
 use Rattle.phases.specs.declared.Phase.TheVariants.{SS0, ST0, SS1, ST1, SS2}
-use Rattle.phases.specs.declared.Move.{Move}
-use Rattle.phases.specs.declared.Move.TheVariants.{Stays, Enters}
+use Rattle.std.specs.Prelude.{Option, Some, None}
 use Rattle.phases.specs.declared.Cause.{Cause}
 use Rattle.phases.specs.declared.Cause.TheVariants.{
   TrueAtOnce,
@@ -27,9 +26,7 @@ use Rattle.sensor.specs.declared.single.Sensor.{Sensor}
 use Rattle.phases.specs.Phases.{condition_in, when_enabled, when_disabled, settled, power_cycled, move_of}
 use Rattle.sensor.specs.Level.{greatest_reading}
 use Rattle.sensor.specs.Single.{fresh_sensor, moved, with_level, with_timer, timer_in, entering, moved_by, after_cause, with_reading, keeping, level_given, judged, turn_cause, turned_to, reading_of, enable_cause, enable_of, disable_of, power_cycle_of, sensor_tick}
-use Rattle.sensor.specs.Parts.{lowered_by}
 use Rattle.sensor.specs.Sound.{TimerAgrees, LevelAgrees, ConditionAgrees, Sound}
-use Rattle.sensor.proofs.Ticks.{QuietFor}
 
 pub fresh-sound : Sound fresh_sensor
 unfolding fresh_sensor
@@ -66,14 +63,14 @@ enters q s l p h t k = record {
 }
 
 -- a move of enabled sensors alone, and of disabled ones alone, by the phase
-by-enabled : (P : Phase → Move → Type 0) (q : Phase) → P SS0 Stays → ((p : Phase) → P p (Enters q)) → (p : Phase) → P p (when_enabled p q)
+by-enabled : (P : Phase → Option Phase → Type 0) (q : Phase) → P SS0 None → ((p : Phase) → P p (Some q)) → (p : Phase) → P p (when_enabled p q)
 by-enabled P q off on SS0 = off
 by-enabled P q off on ST0 = on ST0
 by-enabled P q off on SS1 = on SS1
 by-enabled P q off on ST1 = on ST1
 by-enabled P q off on SS2 = on SS2
 
-by-disabled : (P : Phase → Move → Type 0) (q : Phase) → P SS0 (Enters q) → ((p : Phase) → P p Stays) → (p : Phase) → P p (when_disabled p q)
+by-disabled : (P : Phase → Option Phase → Type 0) (q : Phase) → P SS0 (Some q) → ((p : Phase) → P p None) → (p : Phase) → P p (when_disabled p q)
 by-disabled P q off on SS0 = off
 by-disabled P q off on ST0 = on ST0
 by-disabled P q off on SS1 = on SS1
@@ -163,14 +160,14 @@ unfolding judged
 judged-sound s h = turn-sound (level_given s) s h
 
 -- a last reading says nothing of the phases
-kept-sound : (has : Bool) (v : ℕ) (s : Sensor) → Sound s → Sound (with_reading has v s)
-kept-sound has v s h =
+kept-sound : (last : Option ℕ) (s : Sensor) → Sound s → Sound (with_reading last s)
+kept-sound last s h =
     record { timer = h.timer; level = h.level; condition = h.condition; on_fraction = h.on_fraction; off_fraction = h.off_fraction }
 
 pub reading-sound : (v : ℕ) (s : Sensor) → Sound s → Sound (reading_of v s)
 unfolding reading_of
 reading-sound v s h =
-    cond_either Sound (ltb greatest_reading v) s (judged (keeping v s)) (λ e. h) (λ e. judged-sound (keeping v s) (kept-sound true v s h))
+    cond_either Sound (ltb greatest_reading v) s (judged (keeping v s)) (λ e. h) (λ e. judged-sound (keeping v s) (kept-sound (Some v) s h))
 
 -- fewer ticks to go, and some left where the sensor waits
 later : (s : Sensor) (t : ℕ) (p : Phase) → (s.timer ≡ 0 → t ≡ 0) → (t ≡ 0 → s.timer ≡ 0) → TimerAgrees p s.timer → TimerAgrees p t
@@ -199,14 +196,6 @@ tick-sound s h =
     more : (s.timer ≡ 0 → ⊥) → (s.timer ≡ 1 → ⊥) → s.timer - 1 ≡ 0 → ⊥
     more n m z = omega arith
 
--- k ticks at once, where none of them ends the timer
-pub lowered-sound : (k : ℕ) (s : Sensor) → QuietFor k s.timer → Sound s → Sound (lowered_by k s)
-lowered-sound k s q h = timer-sound s (s.timer - k) (omega arith) (go s.timer q) h
-  where
-    go : (t : ℕ) → QuietFor k t → t - k ≡ 0 → t ≡ 0
-    go zero q e = refl
-    go (suc t) q e = omega arith
-
 -- ---- enabling, disabling, power cycle
 
 enable-meets : (s : Sensor) → Meets (enable_cause s) s
@@ -226,4 +215,4 @@ disable-sound s h = step-sound Disabled s tt h
 
 pub power-cycle-sound : (s : Sensor) → Sound s → Sound (power_cycle_of s)
 unfolding power_cycle_of
-power-cycle-sound s h = kept-sound false 0 (after_cause PowerCycle s) (step-sound PowerCycle s tt h)
+power-cycle-sound s h = kept-sound None (after_cause PowerCycle s) (step-sound PowerCycle s tt h)

@@ -1,6 +1,6 @@
 -- Document 02, #101, in its own words: the last reading of one sensor, and what judging it again comes to. It follows from the rules of Single
 -- (theorem `judging` in proofs/Judging).
-use Rattle.std.specs.Prelude.{ℕ, ◌≤◌, ◌<◌, ◌≡◌, true, false}
+use Rattle.std.specs.Prelude.{ℕ, ◌≤◌, ◌<◌, ◌≡◌, Some, None}
 use Rattle.sensor.specs.declared.single.Sensor.{Sensor}
 use Rattle.sensor.specs.Level.{greatest_reading}
 use Rattle.sensor.specs.Single.{fresh_sensor, judged, reading_of, enable_of, disable_of, power_cycle_of, sensor_tick}
@@ -8,16 +8,14 @@ use Rattle.sensor.specs.Sound.{UpToDate}
 
 -- v is the last reading of a sensor
 pub record LastRead (v : ℕ) (s : Sensor) : Type 0 where
-  pub some : s.has_reading ≡ true
-  pub value : s.last_reading ≡ v
+  pub value : s.last_reading ≡ Some v
 
 -- a sensor has no last reading
 abbrev pub NoReading : Sensor → Type 0
-NoReading s = s.has_reading ≡ false
+NoReading s = s.last_reading ≡ None
 
 -- the second sensor has the last reading of the first, or none as the first has none
 pub record SameReading (s t : Sensor) : Type 0 where
-  pub some : t.has_reading ≡ s.has_reading
   pub value : t.last_reading ≡ s.last_reading
 
 pub record Judging : Type 0 where

@@ -1,18 +1,16 @@
 -- Document 01, 'Sensors', and document 02, #101: one sensor, what each event and each tick makes of it. A sensor's phase says whether it is
 -- enabled, its timer runs where it is not 0, and its last reading counts where it has one; so every value of the type has a meaning, also one
 -- that no event reaches.
-use Rattle.std.specs.Prelude.{ℕ, ◌-◌, ◌≡◌, Bool, true, false, cond, List, [], ◌∷◌, eqb, ltb}
+use Rattle.std.specs.Prelude.{ℕ, ◌-◌, ◌≡◌, Bool, false, cond, List, [], ◌∷◌, eqb, ltb, Option, Some, None, Result, Ok, Err}
 use Rattle.std.specs.Bool.{beq}
-use Rattle.base.specs.Refusals.{Refusal, when, first_of}
+use Rattle.base.specs.Refusals.{TableRow, when, first_of}
 use Rattle.answer.specs.Numbers.{number_of}
+use Rattle.answer.specs.declared.Refusal.{Refusal}
 use Rattle.phases.specs.declared.Phase.{Phase}
 use Rattle.phases.specs.declared.Phase.TheVariants.{SS0, ST0, SS1, ST1, SS2}
-use Rattle.phases.specs.declared.Move.{Move}
-use Rattle.phases.specs.declared.Move.TheVariants.{Stays, Enters}
 use Rattle.phases.specs.declared.Cause.{Cause}
 use Rattle.phases.specs.declared.Cause.TheVariants.{TrueAtOnce, TrueWaiting, FalseAtOnce, FalseWaiting, TimerEnds, EnabledTrueAtOnce, EnabledTrueWaiting, EnabledFalse, Disabled, PowerCycle}
 use Rattle.sensor.specs.declared.single.Sensor.{Sensor}
-use Rattle.sensor.specs.declared.single.SensorAnswer.{SensorAnswer}
 use Rattle.phases.specs.Phases.{condition_in, move_of, level_after}
 use Rattle.sensor.specs.Level.{greatest_reading, thousandths, level_rule}
 
@@ -35,14 +33,13 @@ fresh_sensor = record {
   level = false;
   phase = SS0;
   condition = false;
-  has_reading = false;
   timer = 0;
-  last_reading = 0;
+  last_reading = None;
 }
 
--- the same columns, with another level, phase, condition and timer, and another last reading: whether there is one, and its value
-abbrev pub standing : Bool → Phase → Bool → ℕ → Bool → ℕ → Sensor → Sensor
-standing l p c t has last s = record {
+-- the same columns, with another level, phase, condition and timer, and another last reading
+abbrev pub standing : Bool → Phase → Bool → ℕ → Option ℕ → Sensor → Sensor
+standing l p c t last s = record {
   on_threshold = s.on_threshold;
   on_fraction = s.on_fraction;
   on_timeout = s.on_timeout;
@@ -52,14 +49,13 @@ standing l p c t has last s = record {
   level = l;
   phase = p;
   condition = c;
-  has_reading = has;
   timer = t;
   last_reading = last;
 }
 
 -- the same columns and last reading, with another level, phase, condition and timer
 abbrev pub moved : Bool → Phase → Bool → ℕ → Sensor → Sensor
-moved l p c t s = standing l p c t s.has_reading s.last_reading s
+moved l p c t s = standing l p c t s.last_reading s
 
 abbrev pub with_level : Bool → Sensor → Sensor
 with_level l s = moved l s.phase s.condition s.timer s
@@ -67,16 +63,16 @@ with_level l s = moved l s.phase s.condition s.timer s
 abbrev pub with_timer : ℕ → Sensor → Sensor
 with_timer t s = moved s.level s.phase s.condition t s
 
-abbrev pub with_reading : Bool → ℕ → Sensor → Sensor
-with_reading has last s = standing s.level s.phase s.condition s.timer has last s
+abbrev pub with_reading : Option ℕ → Sensor → Sensor
+with_reading last s = standing s.level s.phase s.condition s.timer last s
 
 -- #101: "A sensor row now keeps its last reading"
 abbrev pub keeping : ℕ → Sensor → Sensor
-keeping v s = with_reading true v s
+keeping v s = with_reading (Some v) s
 
 -- #101: "none .. after a power cycle", as in the fresh sensor
 abbrev pub forgetting : Sensor → Sensor
-forgetting s = with_reading false 0 s
+forgetting s = with_reading None s
 
 -- "ST0 with the timer set to it", "ST1 with the timer set to it": the timer as a phase is entered. In the others no timer runs.
 abbrev pub timer_in : Phase → Sensor → ℕ
@@ -90,9 +86,10 @@ timer_in SS2 s = 0
 abbrev pub entering : Phase → Sensor → Sensor
 entering p s = moved s.level p (condition_in p s.condition) (timer_in p s) s
 
-abbrev pub moved_by : Move → Sensor → Sensor
-moved_by Stays s = s
-moved_by (Enters p) s = entering p s
+-- by the table: the phase that is entered, or none where the sensor stays
+abbrev pub moved_by : Option Phase → Sensor → Sensor
+moved_by None s = s
+moved_by (Some p) s = entering p s
 
 -- the sensor after a cause
 unfoldable pub after_cause : Cause → Sensor → Sensor
@@ -105,10 +102,14 @@ on_of s = thousandths s.on_threshold s.on_fraction
 abbrev pub off_of : Sensor → ℕ
 off_of s = thousandths s.off_threshold s.off_fraction
 
--- the level that the last reading gives by the level rule, which is not always the level that the sensor has. #101: "With no reading the
--- level stays."
+-- the level that a last reading gives by the level rule. #101: "With no reading the level stays."
+abbrev pub level_by : (on off : ℕ) → Option ℕ → Bool → Bool
+level_by on off None level = level
+level_by on off (Some v) level = level_rule on off v level
+
+-- the level that its own last reading gives, which is not always the level that the sensor has
 unfoldable pub level_given : Sensor → Bool
-level_given s = cond s.has_reading (level_rule (on_of s) (off_of s) s.last_reading s.level) s.level
+level_given s = level_by (on_of s) (off_of s) s.last_reading s.level
 
 -- "When an enabled sensor's level turns TRUE: on-timeout 0 ..", "Turning FALSE: off-timeout 0 ..": which cause a turn is
 abbrev pub turn_cause : Bool → Sensor → Cause
@@ -124,7 +125,7 @@ unfoldable pub judged : Sensor → Sensor
 judged s = turned_to (level_given s) s
 
 -- 2 "out of range: a field exceeds its range": the refusals of a reading of a sensor that is there
-abbrev pub reading_refusals : ℕ → List Refusal
+abbrev pub reading_refusals : ℕ → List TableRow
 reading_refusals v = when 2 (ltb greatest_reading v) ∷ []
 
 abbrev pub reading_answer : ℕ → ℕ
@@ -161,7 +162,8 @@ runs s = ltb 0 s.timer
 abbrev pub ends_next : Sensor → Bool
 ends_next s = eqb s.timer 1
 
--- What a reading or a Set hands back: the answer's number in document 01's table, and the sensor.
-pub record Answers (number : ℕ) (after : Sensor) (r : SensorAnswer) : Type 0 where
-  pub answer : number_of r.answer ≡ number
-  pub sensor : r.sensor ≡ after
+-- What a reading or a Set hands back: the sensor, or a refusal by its number in the table. A refused call hands back no sensor, and the
+-- caller's own is as it was.
+abbrev pub Answers : (number : ℕ) (after : Sensor) → Result Sensor Refusal → Type 0
+Answers number after (Ok s) = (number ≡ 0) × (s ≡ after)
+Answers number after (Err r) = number_of r ≡ number

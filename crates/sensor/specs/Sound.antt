@@ -1,6 +1,6 @@
 -- What holds of every sensor that events reach: its timer, phase, level and condition agree, its fractions and its last reading are in their
 -- ranges, and its level is the one that its last reading gives.
-use Rattle.std.specs.Prelude.{ℕ, ◌≤◌, ◌≡◌, Bool, true, false}
+use Rattle.std.specs.Prelude.{ℕ, ◌≤◌, ◌≡◌, Bool, true, false, Option, Some, None}
 use Rattle.phases.specs.declared.Phase.{Phase}
 use Rattle.phases.specs.declared.Phase.TheVariants.{SS0, ST0, SS1, ST1, SS2}
 use Rattle.sensor.specs.declared.single.Sensor.{Sensor}
@@ -38,11 +38,13 @@ pub record Sound (s : Sensor) : Type 0 where
   pub on_fraction : s.on_fraction ≤ greatest_fraction
   pub off_fraction : s.off_fraction ≤ greatest_fraction
 
--- A last reading in its range: "Readings are thousandths, 0 to 4,294,967,295,999.", and one that is refused is not kept. Where there is none, 0
--- stands for it.
+-- A last reading in its range: "Readings are thousandths, 0 to 4,294,967,295,999.", and one that is refused is not kept.
+abbrev pub InRange : Option ℕ → Type 0
+InRange None = Unit {0}
+InRange (Some v) = v ≤ greatest_reading
+
 pub record Kept (s : Sensor) : Type 0 where
-  pub range : s.last_reading ≤ greatest_reading
-  pub blank : s.has_reading ≡ false → s.last_reading ≡ 0
+  pub range : InRange s.last_reading
 
 -- Document 02, #101: "Thresholds act when they are set." The level is the one that the last reading gives under the thresholds as they now
 -- are: no threshold waits for the next reading.

@@ -1,6 +1,6 @@
-// One Security Sensor (document 01, 'Sensors'; 002, 4.3.2): what each event and each tick makes of it. Its Set is in crate `sensor_set`.
+//! One Security Sensor (TCG Storage, Locking: 4.3.2): what each event and each tick makes of it. Its Set is in crate `sensor_set`.
 #![tactic(auto)]
 
 mod single;
 
-pub use single::{Sensor, SensorAnswer};
+pub use single::Sensor;

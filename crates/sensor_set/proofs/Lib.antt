@@ -1,4 +1,3 @@
-pub mod Arms
 pub mod Fits
 pub mod Sets
 pub mod Keeping

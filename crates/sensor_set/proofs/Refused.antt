@@ -8,7 +8,7 @@ use Rattle.sensor.specs.declared.single.Sensor.{Sensor}
 use Rattle.sensor_set.specs.declared.SensorColumns.{SensorColumns}
 use Rattle.sensor_set.specs.declared.SensorEvent.{SensorEvent}
 use Rattle.sensor_set.specs.declared.SensorEvent.TheVariants as E
-use Rattle.sensor.proofs.Arms.{reading-refused}
+use Rattle.sensor.proofs.Refused.{reading-refused}
 use Rattle.sensor_set.specs.Columns.{columns_fit, stored_of, rejudged_of, switched_of, set_answer, set_of, sensor_refusals, sensor_answer, sensor_after}
 
 set-refused : (c : SensorColumns) (s : Sensor) → eqb (set_answer c) 0 ≡ false → set_of c s ≡ s

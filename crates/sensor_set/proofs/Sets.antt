@@ -8,8 +8,7 @@ use Rattle.base.specs.Columns.{named}
 use Rattle.base.proofs.Cases.{cond_either, neither}
 use Rattle.base.proofs.Columns.{stored-within}
 use Rattle.sensor.specs.declared.single.Sensor.{Sensor}
-use Rattle.sensor.specs.Level.{level_rule}
-use Rattle.sensor.specs.Single.{greatest_number, greatest_fraction, judged, on_of, off_of, level_given, enable_of, disable_of}
+use Rattle.sensor.specs.Single.{greatest_number, greatest_fraction, judged, on_of, off_of, level_by, level_given, enable_of, disable_of}
 use Rattle.sensor.specs.Sound.{Sound, Timed, Kept, UpToDate}
 use Rattle.sensor.proofs.Soundness.{judged-sound, enable-sound, disable-sound}
 use Rattle.sensor.proofs.Bounds.{judged-timed, enable-timed, disable-timed}
@@ -88,11 +87,11 @@ module _ (c : SensorColumns) (s : Sensor) (e : names_threshold c.mask ≡ false)
   stored-level : level_given (stored_of c s) ≡ level_given s
   unfolding stored_of level_given
   stored-level =
-      ap₂ (λ (on off : ℕ). cond s.has_reading (level_rule on off s.last_reading s.level) s.level) same-on same-off
+      ap₂ (λ (on off : ℕ). level_by on off s.last_reading s.level) same-on same-off
 
 stored-kept : (c : SensorColumns) (s : Sensor) → Kept s → Kept (stored_of c s)
 unfolding stored_of
-stored-kept c s h = record { range = h.range; blank = h.blank }
+stored-kept c s h = record { range = h.range }
 
 rejudged-up-to-date : (c : SensorColumns) (s : Sensor) → columns_fit c ≡ true → UpToDate s → UpToDate (rejudged_of c (stored_of c s))
 unfolding rejudged_of stored_of

@@ -22,17 +22,17 @@ use Rattle.sensor_set.proofs.Sets.{rejudged, set_keeps}
 
 stored-reading : (c : SensorColumns) (s : Sensor) → SameReading s (stored_of c s)
 unfolding stored_of
-stored-reading c s = record { some = refl; value = refl }
+stored-reading c s = record { value = refl }
 
 -- one step after another
 onward : (s t u : Sensor) → SameReading s t → SameReading t u → SameReading s u
-onward s t u e f = record { some = f.some ∙ e.some; value = f.value ∙ e.value }
+onward s t u e f = record { value = f.value ∙ e.value }
 
 set-reading : (c : SensorColumns) (s : Sensor) → SameReading s (set_of c s)
 set-reading c s =
     set_keeps (SameReading s) (λ x h. onward s x (enable_of x) h (judging.enable-keeps x)) (λ x h. onward s x (disable_of x) h (judging.disable-keeps x))
     (λ c x e h. rejudged (SameReading s) (λ y k. onward s y (judged y) k (judging.judged-keeps y)) c (stored_of c x) (onward s x (stored_of c x) h (stored-reading c x)))
-    c s (record { some = refl; value = refl })
+    c s (record { value = refl })
 
 -- ---- a Set that judges, and one that does not
 
@@ -54,7 +54,7 @@ unfolding rejudged_of
 rejudges c t h = sym (cond-true (names_threshold c.mask) (judged t) t _ (some-named c.mask h.bit) refl)
 
 stored-read : (c : SensorColumns) (s : Sensor) (v : ℕ) → LastRead v s → LastRead v (stored_of c s)
-stored-read c s v l = record { some = (stored-reading c s).some ∙ l.some; value = (stored-reading c s).value ∙ l.value }
+stored-read c s v l = record { value = (stored-reading c s).value ∙ l.value }
 
 judges : (c : SensorColumns) (s : Sensor) (v : ℕ) → Judges c → LastRead v s → v ≤ greatest_reading
     → set_of c s ≡ switched_of c (reading_of v (stored_of c s))
@@ -69,7 +69,7 @@ idle c s q = ap (λ (t : Sensor). cond (columns_fit c) (switched_of c t) s) q
 
 no-reading : (c : SensorColumns) (s : Sensor) → NoReading s → set_of c s ≡ unjudged c s
 no-reading c s l =
-    idle c s (rejudged (λ x. x ≡ stored_of c s) (λ x e. judging.no-reading x (ap (λ (y : Sensor). y.has_reading) e ∙ (stored-reading c s).some ∙ l) ∙ e) c (stored_of c s) refl)
+    idle c s (rejudged (λ x. x ≡ stored_of c s) (λ x e. judging.no-reading x (ap (λ (y : Sensor). y.last_reading) e ∙ (stored-reading c s).value ∙ l) ∙ e) c (stored_of c s) refl)
 
 no-threshold : (c : SensorColumns) (s : Sensor) → NoThreshold c.mask → set_of c s ≡ unjudged c s
 unfolding rejudged_of

@@ -1,7 +1,7 @@
 -- Document 01, 'Sensors', and document 02, #101: a Set of a sensor's columns.
 use Rattle.std.specs.Prelude.{ℕ, Bool, not, cond, ◌&&◌, ◌||◌, List, [], ◌∷◌, eqb, ltb}
 use Rattle.base.specs.Columns.{named, within}
-use Rattle.base.specs.Refusals.{Refusal, when, first_of}
+use Rattle.base.specs.Refusals.{TableRow, when, first_of}
 use Rattle.sensor.specs.declared.single.Sensor.{Sensor}
 use Rattle.sensor_set.specs.declared.SensorColumns.{SensorColumns}
 use Rattle.sensor_set.specs.declared.SensorEvent.{SensorEvent}
@@ -26,7 +26,7 @@ columns_fit c =
     && within greatest_number (named 64 m) c.off_timeout))))))
 
 -- 2 "out of range: a field exceeds its range"; "an unknown mask bit .. gets 2": the refusals of a Set of a sensor that is there
-abbrev pub set_refusals : SensorColumns → List Refusal
+abbrev pub set_refusals : SensorColumns → List TableRow
 set_refusals c = when 2 (not (columns_fit c)) ∷ []
 
 abbrev pub set_answer : SensorColumns → ℕ
@@ -46,7 +46,6 @@ stored_of c s =
       level = s.level;
       phase = s.phase;
       condition = s.condition;
-      has_reading = s.has_reading;
       timer = s.timer;
       last_reading = s.last_reading;
     }
@@ -69,7 +68,7 @@ set_of c s = cond (columns_fit c) (switched_of c (rejudged_of c (stored_of c s))
 
 -- ---- the events on one sensor that is there: a reading, and a Set
 
-abbrev pub sensor_refusals : SensorEvent → List Refusal
+abbrev pub sensor_refusals : SensorEvent → List TableRow
 sensor_refusals (E.Reading v) = reading_refusals v
 sensor_refusals (E.Set c) = set_refusals c
 

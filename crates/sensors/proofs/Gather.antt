@@ -1,9 +1,11 @@
 -- The loop that gathers the conditions: after i turns it holds those of the first i sensors, and FALSE elsewhere.
 use mathlib.Core.Path.{◌≡◌, refl, sym, ap, ◌∙◌}
-use Prim.Native.Nat.{ℕ, zero, suc, ◌+◌, ◌<◌, ◌≤◌}
+use Prim.Native.Nat.{ℕ, zero, suc, ◌+◌, ◌<◌, ◌≤◌, min}
+use lib.Dec.{ltb}
+use borrow.Author.Tests.{ltb-true, ltb-false}
 use native.Mathlib.Omega.{arith}
 use native.Mathlib.Numerals.{add-one}
-use mathlib.Core.Bool.{Bool, false}
+use mathlib.Core.Bool.{Bool, true, false}
 use mathlib.Core.List.{List, [], ◌∷◌}
 use lib.ListN.{length, get_or, set, replicate}
 use Rattle.sensor.specs.declared.single.Sensor.{Sensor}
@@ -39,9 +41,9 @@ pub gather-begin : (count : ℕ) (l : List Sensor) → length l ≡ 16 → Gathe
 gather-begin count l e =
     record { low = omega arith; under = omega arith; long = e; same = ap (λ (n : ℕ). replicate n false) (sym e) ∙ none l }
 
-pub gather-again : (n count : ℕ) (l : List Sensor) (m : List Bool) (i : ℕ) (d : Sensor) → Gathered n count l m i → i < n → i < count
+pub gather-again : (n count : ℕ) (l : List Sensor) (m : List Bool) (i : ℕ) (d : Sensor) → Gathered n count l m i → i < min count n
     → Gathered n count l (set m i (get_or l i d).condition) (i + 1)
-gather-again n count l m i d t h k = record {
+gather-again n count l m i d t h = record {
   low = omega arith;
   under = omega arith;
   long = t.long;
@@ -49,11 +51,12 @@ gather-again n count l m i d t h k = record {
 }
 
 -- the end, by the count or by the array
-pub gather-short : (n count : ℕ) (l : List Sensor) (m : List Bool) (i : ℕ) → Gathered n count l m i → count ≤ i → m ≡ conditions_below count l
-gather-short n count l m i t h = let e : i ≡ count = omega (arith, t.under) in t.same ∙ ap (λ (k : ℕ). conditions_below k l) e
-
-pub gather-done : (n count : ℕ) (l : List Sensor) (m : List Bool) (i : ℕ) → Gathered n count l m i → n ≤ i → m ≡ conditions_below count l
-gather-done n count l m i t h = t.same ∙ whole i count l (omega (arith, t.long)) (omega (arith, t.long, t.under))
+pub gather-ends : (n count : ℕ) (l : List Sensor) (m : List Bool) (i : ℕ) → Gathered n count l m i → min count n ≤ i → m ≡ conditions_below count l
+gather-ends n count l m i t h = t.same ∙ go (ltb count n) refl
+  where
+    go : (b : Bool) → ltb count n ≡ b → conditions_below i l ≡ conditions_below count l
+    go true e = let k : i ≡ count = omega (arith, t.under, h, ltb-true count n e) in ap (λ (k : ℕ). conditions_below k l) k
+    go false e = let k : n ≤ count = ltb-false count n e in whole i count l (omega (arith, t.long, t.low, h, k)) (omega (arith, t.long, k))
 
 -- ---- one condition of the sixteen
 

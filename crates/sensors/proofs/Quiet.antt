@@ -1,17 +1,19 @@
 -- Ticks of the sensors of a drive: k quiet ticks at once, the ticks before the next end, and stops that use up running timers.
 use mathlib.Core.Path.{◌≡◌, refl, sym, ap, ◌∙◌}
-use mathlib.Core.Bool.{Bool, true, false, ◌||◌, false≢true}
-use mathlib.Core.List.{List, [], ◌∷◌, map}
+use mathlib.Core.Bool.{Bool, true, false, cond, ◌||◌, false≢true}
+use mathlib.Core.List.{List, [], ◌∷◌, map, foldl}
 use mathlib.Core.Logic.{◌⊎◌, inl, inr, ⊎_elim}
 use Prim.Native.Nat.{ℕ, zero, suc, ◌+◌, ◌-◌, ◌<◌, ◌≤◌}
 use native.Mathlib.Omega.{arith}
 use lib.Dec.{eqb}
 use lib.ListN.{length, get_or, set}
 use borrow.Author.Tests.{eq-eqb, ne_eqb, ltb-false}
+use Rattle.std.specs.List.{All, list_any, filter, fold}
+use Rattle.std.proofs.lemmas.List.Elements.{All-head, All-tail}
 use Rattle.base.specs.Lists.{one_if, any, count}
 use Rattle.base.proofs.Lists.{or-le}
 use Rattle.base.proofs.Jumps.{Jumps}
-use Rattle.base.proofs.Loops.{Mapped, map-again, map-skip, map-done}
+use Rattle.base.proofs.Loops.{Mapped, map-again}
 use Rattle.sensor.specs.declared.single.Sensor.{Sensor}
 use Rattle.sensor.specs.Single.{sensor_tick, power_cycle_of, ends_next, runs}
 use Rattle.sensor.specs.Parts.{lowered_by, quiet_of}
@@ -113,8 +115,8 @@ quiet_ticks-most n (s ∷ l) =
     (quiet_ticks-most (quiet_of n s) l)
 
 -- they are among those that are left
-pub few-left : (m k : ℕ) (l : List Sensor) → k ≡ quiet_ticks m l → k ≤ m
-few-left m k l e = omega (arith, e, quiet_ticks-le m l)
+pub few_left : (m k : ℕ) (l : List Sensor) → k ≡ quiet_ticks m l → k ≤ m
+few_left m k l e = omega (arith, e, quiet_ticks-le m l)
 
 -- ---- the loop of a tick
 
@@ -124,10 +126,10 @@ module _ (n : ℕ) (l m x : List Sensor) (i : ℕ) (d : Sensor) (s : Mapped sens
   one-ticks v e q = rw q (map-again sensor_tick n l m i v d s h e)
 
   -- another is left, since a tick leaves it
-  pub one-stays : (t : Bool) → t ≡ runs (get_or m i d) → t ≡ false → x ≡ m → Mapped sensor_tick n l x (i + 1)
-  one-stays t p e q =
+  pub one-stays : (v : Sensor) (t : Bool) → t ≡ runs (get_or m i d) → t ≡ false → v ≡ get_or m i d → x ≡ set m i v → Mapped sensor_tick n l x (i + 1)
+  one-stays v t p e w q =
       let none : (get_or m i d).timer ≡ 0 = omega (arith, ltb-false 0 (get_or m i d).timer (sym p ∙ e)) in
-      rw q (map-skip sensor_tick n l m i d s h (sym (tick-none (get_or m i d) none)))
+      rw q (map-again sensor_tick n l m i v d s h (w ∙ sym (tick-none (get_or m i d) none)))
 
 -- ---- a turn of a power cycle
 
@@ -136,23 +138,16 @@ module _ (n : ℕ) (l m x : List Sensor) (i : ℕ) (d : Sensor) (s : Mapped powe
   one-cycles v e q = rw q (map-again power_cycle_of n l m i v d s h e)
 
   -- another rests, and is left
-  pub one-rests : power_cycle_of (get_or m i d) ≡ get_or m i d → x ≡ m → Mapped power_cycle_of n l x (i + 1)
-  one-rests f q = rw q (map-skip power_cycle_of n l m i d s h (sym f))
+  pub one-rests : (v : Sensor) → power_cycle_of (get_or m i d) ≡ get_or m i d → v ≡ get_or m i d → x ≡ set m i v → Mapped power_cycle_of n l x (i + 1)
+  one-rests v f w q = rw q (map-again power_cycle_of n l m i v d s h (w ∙ sym f))
 
--- ---- the loop that asks whether all rest
+-- ---- whether all rest
 
-pub all_done : (n : ℕ) (l : List Sensor) (i : ℕ) → Mapped power_cycle_of n l l i → n ≤ i → map power_cycle_of l ≡ l
-all_done n l i t h = sym (map-done power_cycle_of n l l i t h)
-
--- a power cycle that leaves all as they are leaves each so
-pub each-rests : (l : List Sensor) (i : ℕ) (d : Sensor) → i < length l → map power_cycle_of l ≡ l → power_cycle_of (get_or l i d) ≡ get_or l i d
-each-rests [] i d h e = absurd (omega arith)
-each-rests (s ∷ l) zero d h e = ap (λ (m : List Sensor). get_or m 0 d) e
-each-rests (s ∷ l) (suc i) d h e = each-rests l i d (omega arith) (ap rest e)
-  where
-    rest : List Sensor → List Sensor
-    rest [] = []
-    rest (x ∷ m) = m
+pub rest-all : (l : List Sensor) → All (λ s. power_cycle_of s ≡ s) l → map power_cycle_of l ≡ l
+rest-all [] a = refl
+rest-all (s ∷ l) a =
+    let P : Sensor → Type 0 = λ s. power_cycle_of s ≡ s in
+    λ i. All-head P s l a i ∷ rest-all l (All-tail P s l a) i
 
 -- ---- stops use up running timers
 
@@ -166,3 +161,23 @@ pub lowered-running : (k : ℕ) (l : List Sensor) → count runs (map (lowered_b
 unfolding count
 lowered-running k [] = omega arith
 lowered-running k (s ∷ l) = omega (arith, runs-less k s.timer, lowered-running k l)
+
+-- ---- the library's words for what the loops over the sixteen say
+
+pub any-is : {A : Type 0} (p : A → Bool) (l : List A) → list_any p l ≡ any p l
+unfolding any
+any-is p [] = refl
+any-is p (x ∷ l) = grind (arith, any-is p l)
+
+pub count-is : {A : Type 0} (p : A → Bool) (l : List A) → length (filter p l) ≡ count p l
+unfolding count
+count-is p [] = refl
+count-is p (x ∷ l) = go (p x) (count-is p l)
+  where
+    go : (b : Bool) → length (filter p l) ≡ count p l → length (cond b (x ∷ filter p l) (filter p l)) ≡ one_if b + count p l
+    go true e = omega (arith, e)
+    go false e = omega (arith, e)
+
+pub fold-is : {A B : Type 0} (f : B → A → B) (b : B) (l : List A) → fold f b l ≡ foldl f b l
+fold-is f b [] = refl
+fold-is f b (x ∷ l) = fold-is f (f b x) l

@@ -10,15 +10,14 @@ use lib.Seq.{drop-cons, take-append_seam}
 use mir.Syntax.{w8}
 use mir.Val.{Fits}
 use borrow.Author.Tests.{eqb-true}
-use Rattle.base.proofs.Cases.{and_left, and_right, cond_both}
-use Rattle.answer.specs.Numbers.{number_of}
+use Rattle.base.proofs.Cases.{and_left, and_right}
+use Rattle.answer.specs.declared.Refusal.{Refusal}
 use Rattle.expression.specs.declared.Part.{Part}
 use Rattle.expression.specs.declared.Part.TheVariants.{Reference, Operator}
 use Rattle.expression.specs.declared.Element.{Element}
 use Rattle.expression.specs.Elements.{element, blank, elements_in, expression_of}
-use Rattle.token_reader.specs.declared.Head.{Head}
-use Rattle.token_reader.specs.declared.Head.TheVariants.{Is, Broken}
-use Rattle.token_reader.specs.declared.Tokens.{Tokens}
+use Rattle.std.specs.Prelude.{Option, Some, None, Result, Ok, Err}
+use Rattle.expression.specs.declared.Expression.{Expression}
 use Rattle.base.specs.Lists.{Bytes}
 use Rattle.base.proofs.Bytes.{bytes_drop}
 use Rattle.token_reader.specs.Format.{
@@ -46,8 +45,7 @@ use Rattle.token_reader.specs.Read.{
   read_elements,
   read_list,
   read_tokens,
-  answer_in,
-  expression_in,
+  Tells,
   Reads,
   WrittenAgain,
 }
@@ -73,7 +71,7 @@ end_is (b ∷ x ∷ bytes) h =
     absurd (omega arith)
 
 -- a byte that is not 0 lies within the list
-inside : (bytes : List ℕ) (i : ℕ) → get_or bytes i 0 ≡ 0xF3 → i < length bytes
+pub inside : (bytes : List ℕ) (i : ℕ) → get_or bytes i 0 ≡ 0xF3 → i < length bytes
 inside [] i e = absurd (omega arith)
 inside (b ∷ bytes) zero e = omega arith
 inside (b ∷ bytes) (suc i) e = let h : i < length bytes = inside bytes i e in omega arith
@@ -101,10 +99,10 @@ abbrev BeginsWith : Part → List ℕ → Type 0
 BeginsWith p bytes = bytes ≡ part_bytes p ++ drop (width_of p) bytes
 
 module _ (bytes : List ℕ) (p : Part) where
-  reference-is : Bytes bytes → starts_with reference_prefix bytes ≡ true → reference_in bytes ≡ Is p → BeginsWith p bytes
+  reference-is : Bytes bytes → starts_with reference_prefix bytes ≡ true → reference_in bytes ≡ Some p → BeginsWith p bytes
   reference-is k s h =
       let row = four_bytes (get_or bytes 7 0) (get_or bytes 8 0) (get_or bytes 9 0) (get_or bytes 10 0) in
-      by_arm (eqb (get_or bytes 11 0) 0xF3) (Is (Reference row)) Broken (Is p) h
+      by_arm (eqb (get_or bytes 11 0) 0xF3) (Some (Reference row)) None (Some p) h
       (λ t e.
       let f : p ≡ Reference row = cc in
       let x : get_or bytes 11 0 ≡ 0xF3 = eqb-true (get_or bytes 11 0) 0xF3 t in
@@ -117,11 +115,11 @@ module _ (bytes : List ℕ) (p : Part) where
       ∙ sym (ap (λ (r : List ℕ). r ++ drop 12 bytes) (row-bytes _ _ _ _ (k 7) (k 8) (k 9) (k 10)))))
       (λ t e. not-broken p e)
 
-  operator-is : starts_with operator_prefix bytes ≡ true → operator_in bytes ≡ Is p → BeginsWith p bytes
+  operator-is : starts_with operator_prefix bytes ≡ true → operator_in bytes ≡ Some p → BeginsWith p bytes
   operator-is s h =
       let code = get_or bytes 6 0 in
-      by_arm (eqb (get_or bytes 7 0) 0xF3) (cond (leb code 2) (Is (Operator code)) Broken) Broken (Is p) h
-      (λ t e. by_arm (leb code 2) (Is (Operator code)) Broken (Is p) e
+      by_arm (eqb (get_or bytes 7 0) 0xF3) (cond (leb code 2) (Some (Operator code)) None) None (Some p) h
+      (λ t e. by_arm (leb code 2) (Some (Operator code)) None (Some p) e
       (λ u g.
       let f : p ≡ Operator code = cc in
       let x : get_or bytes 7 0 ≡ 0xF3 = eqb-true (get_or bytes 7 0) 0xF3 t in
@@ -131,12 +129,12 @@ module _ (bytes : List ℕ) (p : Part) where
       (λ u g. not-broken p g))
       (λ t e. not-broken p e)
 
-  head-is : Bytes bytes → part_in bytes ≡ Is p → BeginsWith p bytes
+  head-is : Bytes bytes → part_in bytes ≡ Some p → BeginsWith p bytes
   unfolding part_in
   head-is k h =
-      by_arm (starts_with reference_prefix bytes) (reference_in bytes) (cond (starts_with operator_prefix bytes) (operator_in bytes) Broken) (Is p) h
+      by_arm (starts_with reference_prefix bytes) (reference_in bytes) (cond (starts_with operator_prefix bytes) (operator_in bytes) None) (Some p) h
       (λ t e. reference-is k t e)
-      (λ t e. by_arm (starts_with operator_prefix bytes) (operator_in bytes) Broken (Is p) e (λ u f. operator-is u f) (λ u f. not-broken p f))
+      (λ t e. by_arm (starts_with operator_prefix bytes) (operator_in bytes) None (Some p) e (λ u f. operator-is u f) (λ u f. not-broken p f))
 
 none_is : (bytes : List ℕ) (es : List Element) → is_end bytes ≡ true → elements [] ≡ elements es → body_of es ≡ bytes
 unfolding body_of
@@ -144,19 +142,19 @@ none_is bytes es t e = let f : es ≡ [] = cc in rw (f, end_is bytes t)
 
 -- an element in front of what is written
 before-is : (bytes : List ℕ) (p : Part) (o : TokenOutcome) (es : List Element) → BeginsWith p bytes
-    → ((fs : List Element) → o ≡ elements fs → body_of fs ≡ drop (width_of p) bytes) → followed (head_outcome (Is p)) o ≡ elements es → body_of es ≡ bytes
+    → ((fs : List Element) → o ≡ elements fs → body_of fs ≡ drop (width_of p) bytes) → followed (head_outcome (Some p)) o ≡ elements es → body_of es ≡ bytes
 unfolding body_of
 before-is bytes p (elements fs) es b rest h = let f : es ≡ element p ∷ fs = cc in rw (f, rest fs refl) (sym b)
 before-is bytes p (refusal n) es b rest h = not-refused n es h
 
-then_is : (room : ℕ) (bytes : List ℕ) (head : Head) (es : List Element) → Bytes bytes
+then_is : (room : ℕ) (bytes : List ℕ) (head : Option Part) (es : List Element) → Bytes bytes
     → ((rest : List ℕ) (fs : List Element) → Bytes rest → read_elements room rest ≡ elements fs → body_of fs ≡ rest)
     → part_in bytes ≡ head → and_then bytes head (λ rest. read_elements room rest) ≡ elements es → body_of es ≡ bytes
-then_is room bytes (Is p) es k all q h =
+then_is room bytes (Some p) es k all q h =
     before-is bytes p (read_elements room (drop (width_of p) bytes)) es (head-is bytes p k q)
     (λ fs e. all (drop (width_of p) bytes) fs (bytes_drop bytes (width_of p) k) e)
     h
-then_is room bytes Broken es k all q h = not-refused _ es h
+then_is room bytes None es k all q h = not-refused _ es h
 
 body_is : (room : ℕ) (bytes : List ℕ) (es : List Element) → Bytes bytes → read_elements room bytes ≡ elements es → body_of es ≡ bytes
 unfolding read_elements
@@ -184,51 +182,23 @@ written_read bytes es k h =
     (λ t e. not-refused 2 es e)
     (λ t e. list-is bytes es k e)
 
--- what an outcome's number says
-
--- a refusal's number is not 0
-abbrev Told : TokenOutcome → Type 0
-Told (elements es) = Unit {0}
-Told (refusal n) = 0 < n
-
-before-told : (e : Element) (o : TokenOutcome) → Told o → Told (followed (elements (e ∷ [])) o)
-before-told e (elements es) h = h
-before-told e (refusal n) h = h
-
-then-told : (bytes : List ℕ) (head : Head) (follow : List ℕ → TokenOutcome) → ((rest : List ℕ) → Told (follow rest)) → Told (and_then bytes head follow)
-then-told bytes (Is p) follow h = before-told _ (follow (drop (width_of p) bytes)) (h (drop (width_of p) bytes))
-then-told bytes Broken follow h = omega arith
-
-elements-told : (room : ℕ) (bytes : List ℕ) → Told (read_elements room bytes)
-unfolding read_elements
-elements-told zero bytes = cond_both Told (is_end bytes) _ _ tt (cond_both Told (eqb (get_or bytes 0 0) 0xF2) (refusal 4) (refusal 3) (omega arith) (omega arith))
-elements-told (suc room) bytes = cond_both Told (is_end bytes) _ _ tt (then-told bytes (part_in bytes) _ (λ rest. elements-told room rest))
-
-told : (bytes : List ℕ) → Told (read_tokens bytes)
-unfolding read_tokens read_list
-told bytes =
-    cond_both Told (ltb most_token_bytes (length bytes)) (refusal 2) _ (omega arith)
-    (cond_both Told (eqb (get_or bytes 0 0) 0xF0) _ (refusal 3) (elements-told 32 (drop 1 bytes)) (omega arith))
-
--- an answer of 0 comes with elements
-answered : {P : Type 0} (o : TokenOutcome) → Told o → answer_in o ≡ 0 → ((es : List Element) → o ≡ elements es → P) → P
-answered (elements es) t e f = f es refl
-answered (refusal n) t e f = absurd (omega arith)
+-- what is handed back
 
 elements-back : (es : List Element) → elements_in (expression_of es) ≡ es
 elements-back es = take-append_seam es (replicate (32 - length es) blank)
 
--- what an answer of 0 hands back
-module _ (bytes : List ℕ) (r : Tokens) (q : Reads bytes r) where
-  pub accepted-read : {P : Type 0} → number_of r.answer ≡ 0
-      → ((es : List Element) → read_tokens bytes ≡ elements es → elements_in r.expression ≡ es → P) → P
-  accepted-read z f =
-      answered (read_tokens bytes) (told bytes) (sym q.answer ∙ z)
-      (λ es e. f es e (ap elements_in (q.expression ∙ ap expression_in e) ∙ elements-back es))
+told-back : {P : Type 0} (o : TokenOutcome) (x : Expression) → Tells o (Ok x) → ((es : List Element) → o ≡ elements es → elements_in x ≡ es → P) → P
+told-back (elements es) x q f = f es refl (ap elements_in q ∙ elements-back es)
+told-back (refusal n) x q f = absurd q
 
-  pub written-again : Bytes bytes → WrittenAgain bytes r
-  written-again k z = accepted-read z (λ es e x. ap bytes_of x ∙ written_read bytes es k e)
+pub accepted-read : {P : Type 0} (bytes : List ℕ) (x : Expression) → Reads bytes (Ok x)
+    → ((es : List Element) → read_tokens bytes ≡ elements es → elements_in x ≡ es → P) → P
+accepted-read bytes x q f = told-back (read_tokens bytes) x q f
 
-  -- the same of a slice, whose elements are known to be bytes
-  pub slice-again : ((i : ℕ) → Fits w8 (get_or bytes i 0)) → WrittenAgain bytes r
-  slice-again k = written-again (λ i. omega (arith, k i))
+pub written-again : (bytes : List ℕ) (r : Result Expression Refusal) → Bytes bytes → Reads bytes r → WrittenAgain bytes r
+written-again bytes (Ok x) k q = accepted-read bytes x q (λ es e y. ap bytes_of y ∙ written_read bytes es k e)
+written-again bytes (Err reason) k q = tt
+
+-- the same of a slice, whose elements are known to be bytes
+pub slice_again : (bytes : List ℕ) (r : Result Expression Refusal) → ((i : ℕ) → Fits w8 (get_or bytes i 0)) → Reads bytes r → WrittenAgain bytes r
+slice_again bytes r k q = written-again bytes r (λ i. omega (arith, k i)) q

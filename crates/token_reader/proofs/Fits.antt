@@ -11,8 +11,7 @@ use Rattle.expression.specs.declared.Part.{Part}
 use Rattle.expression.specs.declared.Part.TheVariants.{Reference, Operator}
 use Rattle.expression.specs.declared.Element.{Element}
 use Rattle.expression.specs.Elements.{element, PartFits, AllFit}
-use Rattle.token_reader.specs.declared.Head.{Head}
-use Rattle.token_reader.specs.declared.Head.TheVariants.{Is, Broken}
+use Rattle.std.specs.Prelude.{Option, Some, None}
 use Rattle.base.specs.Lists.{Bytes}
 use Rattle.base.proofs.Bytes.{bytes_drop}
 use Rattle.token_reader.specs.Format.{four_bytes, reference_prefix, operator_prefix, starts_with, reference_in, operator_in, part_in, width_of, is_end}
@@ -23,39 +22,39 @@ pub by_arm : {A P : Type 0} (t : Bool) (x y r : A) → cond t x y ≡ r → (t �
 by_arm true x y r e f g = f refl e
 by_arm false x y r e f g = g refl e
 
-pub not-broken : {P : Type 0} (p : Part) → Broken ≡ Is p → P
-not-broken p e = let z : ◌≡◌ {A = ℕ} 0 1 = cc in absurd (omega arith)
+pub not-broken : {P : Type 0} (p : Part) → None ≡ Some p → P
+not-broken p e = cc
 
 pub not-refused : {P : Type 0} (n : ℕ) (es : List Element) → refusal n ≡ elements es → P
-not-refused n es e = let z : ◌≡◌ {A = ℕ} 0 1 = cc in absurd (omega arith)
+not-refused n es e = cc
 
 module _ (bytes : List ℕ) (p : Part) where
-  reference-fits : Bytes bytes → reference_in bytes ≡ Is p → PartFits p
+  reference-fits : Bytes bytes → reference_in bytes ≡ Some p → PartFits p
   reference-fits k h =
       let row = four_bytes (get_or bytes 7 0) (get_or bytes 8 0) (get_or bytes 9 0) (get_or bytes 10 0) in
-      by_arm (eqb (get_or bytes 11 0) 0xF3) (Is (Reference row)) Broken (Is p) h
+      by_arm (eqb (get_or bytes 11 0) 0xF3) (Some (Reference row)) None (Some p) h
       (λ t e. let f : p ≡ Reference row = cc in rw f (omega (arith, k 7, k 8, k 9, k 10)))
       (λ t e. not-broken p e)
 
-  code_fits : (code : ℕ) → cond (leb code 2) (Is (Operator code)) Broken ≡ Is p → PartFits p
+  code_fits : (code : ℕ) → cond (leb code 2) (Some (Operator code)) None ≡ Some p → PartFits p
   code_fits code h =
-      by_arm (leb code 2) (Is (Operator code)) Broken (Is p) h
+      by_arm (leb code 2) (Some (Operator code)) None (Some p) h
       (λ t e. let f : p ≡ Operator code = cc in rw f (leb-true code 2 t))
       (λ t e. not-broken p e)
 
-  operator-fits : operator_in bytes ≡ Is p → PartFits p
+  operator-fits : operator_in bytes ≡ Some p → PartFits p
   operator-fits h =
       let code = get_or bytes 6 0 in
-      by_arm (eqb (get_or bytes 7 0) 0xF3) (cond (leb code 2) (Is (Operator code)) Broken) Broken (Is p) h
+      by_arm (eqb (get_or bytes 7 0) 0xF3) (cond (leb code 2) (Some (Operator code)) None) None (Some p) h
       (λ t e. code_fits code e)
       (λ t e. not-broken p e)
 
-  part-fits : Bytes bytes → part_in bytes ≡ Is p → PartFits p
+  part-fits : Bytes bytes → part_in bytes ≡ Some p → PartFits p
   unfolding part_in
   part-fits k h =
-      by_arm (starts_with reference_prefix bytes) (reference_in bytes) (cond (starts_with operator_prefix bytes) (operator_in bytes) Broken) (Is p) h
+      by_arm (starts_with reference_prefix bytes) (reference_in bytes) (cond (starts_with operator_prefix bytes) (operator_in bytes) None) (Some p) h
       (λ t e. reference-fits k e)
-      (λ t e. by_arm (starts_with operator_prefix bytes) (operator_in bytes) Broken (Is p) e (λ u f. operator-fits f) (λ u f. not-broken p f))
+      (λ t e. by_arm (starts_with operator_prefix bytes) (operator_in bytes) None (Some p) e (λ u f. operator-fits f) (λ u f. not-broken p f))
 
 -- at most so many elements, all of which fit
 abbrev Fits : ℕ → List Element → Type 0
@@ -66,7 +65,7 @@ none-fits room es e = let f : es ≡ [] = cc in rw f (omega arith, tt)
 
 -- an element in front of what fits
 before-fits : (room : ℕ) (p : Part) (o : TokenOutcome) (es : List Element) → PartFits p → ((fs : List Element) → o ≡ elements fs → Fits room fs)
-    → followed (head_outcome (Is p)) o ≡ elements es → Fits (suc room) es
+    → followed (head_outcome (Some p)) o ≡ elements es → Fits (suc room) es
 before-fits room p (elements fs) es k rest h =
     let f : es ≡ element p ∷ fs = cc in
     let g = rest fs refl in
@@ -74,13 +73,13 @@ before-fits room p (elements fs) es k rest h =
 before-fits room p (refusal n) es k rest h = not-refused n es h
 
 -- what stands first, and then the rest
-then-fits : (room : ℕ) (bytes : List ℕ) (head : Head) (es : List Element) → Bytes bytes
+then-fits : (room : ℕ) (bytes : List ℕ) (head : Option Part) (es : List Element) → Bytes bytes
     → ((rest : List ℕ) (fs : List Element) → Bytes rest → read_elements room rest ≡ elements fs → Fits room fs)
     → part_in bytes ≡ head → and_then bytes head (λ rest. read_elements room rest) ≡ elements es → Fits (suc room) es
-then-fits room bytes (Is p) es k all q h =
+then-fits room bytes (Some p) es k all q h =
     let rest = drop (width_of p) bytes in
     before-fits room p (read_elements room rest) es (part-fits bytes p k q) (λ fs e. all rest fs (bytes_drop bytes (width_of p) k) e) h
-then-fits room bytes Broken es k all q h = not-refused _ es h
+then-fits room bytes None es k all q h = not-refused _ es h
 
 elements-fit : (room : ℕ) (bytes : List ℕ) (es : List Element) → Bytes bytes → read_elements room bytes ≡ elements es → Fits room es
 unfolding read_elements

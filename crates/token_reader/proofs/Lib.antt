@@ -1,5 +1,5 @@
 pub mod Prefix
-pub mod Listing
 pub mod Fits
 pub mod Numbers
 pub mod Again
+pub mod Listing

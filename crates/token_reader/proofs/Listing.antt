@@ -1,39 +1,25 @@
--- The loop that reads a list: what it knows with so many elements read at place `at`, and a law for each way out of a turn.
+-- The loop that reads a list: what it knows with some elements read and the rest before it, and a law for each way out of a turn.
 use mathlib.Core.Path.{◌≡◌, refl, sym, ap, ◌∙◌}
 use Prim.Native.Nat.{ℕ, zero, suc, ◌+◌, ◌-◌, ◌≤◌, ◌<◌}
-use native.Mathlib.Nat.{add-zero}
 use native.Mathlib.Omega.{arith}
 use mathlib.Core.Bool.{Bool, true, false}
 use mathlib.Core.List.{List, [], ◌∷◌, ◌++◌, append_assoc, append-nil}
-use lib.ListN.{length, get_or, take, drop, set, replicate, drop_of_length-le, length-append, length-drop, get_or-eq_default}
-use lib.Seq.{drop-drop, get_or-drop, set_at, take_all}
-use borrow.Author.Tests.{eq-eqb, ne_eqb, lt-ltb, le-ltb}
-use Rattle.answer.specs.declared.Answer.{Answer}
-use Rattle.answer.specs.declared.Answer.TheVariants.{Done}
+use lib.Dec.{eqb}
+use lib.ListN.{length, get_or, take, drop, set, replicate, length-append, length-drop}
+use lib.Seq.{set_at, take_all}
+use borrow.Author.Tests.{lt-ltb, le-ltb}
+use Rattle.std.specs.Prelude.{Option, Some, None, Result, Ok, Err, nat_eq, slice_set}
+use Rattle.answer.specs.declared.Refusal.{Refusal}
+use Rattle.answer.specs.declared.Refusal.TheVariants.{OutOfRange, NotTokens, TooLong}
 use Rattle.answer.specs.Numbers.{number_of}
 use Rattle.expression.specs.declared.Part.{Part}
-use Rattle.expression.specs.declared.Part.TheVariants.{Reference, Operator}
 use Rattle.expression.specs.declared.Element.{Element}
+use Rattle.expression.specs.declared.Expression.{Expression}
 use Rattle.expression.specs.Elements.{element, blank}
-use Rattle.token_reader.specs.declared.Head.{Head}
-use Rattle.token_reader.specs.declared.Head.TheVariants.{Is, Broken}
-use Rattle.token_reader.specs.declared.Tokens.{Tokens}
-use Rattle.token_reader.specs.Format.{starts_with, part_in, width_of, is_end}
+use Rattle.token_reader.proofs.Prefix.{first_is}
+use Rattle.token_reader.specs.Format.{part_in, width_of, is_end}
 use Rattle.token_reader.specs.Read.{most_token_bytes, TokenOutcome, elements, refusal, followed, read_elements, read_list, read_tokens, Tells}
-use Rattle.token_reader.specs.Parts.{refused}
-
--- a refusal that the code makes tells an outcome of the same number
-pub refusal-tells : (o : TokenOutcome) (a : Answer) (t : Tokens) → t ≡ refused a → o ≡ refusal (number_of a) → Tells o t
-refusal-tells o a t e q = record { answer = rw (e, q); expression = rw (e, q) }
-
--- the part of the bytes from `at` to their end
-abbrev pub part_from : List ℕ → ℕ → List ℕ
-part_from bytes at = take (length bytes - at) (drop at bytes)
-
--- what a call says of the part, said of what stands from `at` on
-pub part_says : {A : Type 0} (f : List ℕ → A) (bytes : List ℕ) (at : ℕ) (r b : A) → r ≡ f (part_from bytes at) → r ≡ b → f (drop at bytes) ≡ b
-part_says f bytes at r b e h =
-    ap f (sym (take_all (length bytes - at) (drop at bytes) (rw (length-drop at bytes) (omega arith)))) ∙ sym e ∙ h
+use Rattle.std.specs.List.{starts_with}
 
 -- the elements es, and then what an outcome has
 abbrev after : List Element → TokenOutcome → TokenOutcome
@@ -54,124 +40,119 @@ unfolding read_elements
 ends zero bytes h = rw h
 ends (suc room) bytes h = rw h
 
-cut : (room : ℕ) → read_elements room [] ≡ refusal 3
-unfolding read_elements is_end part_in starts_with
-cut zero = refl
-cut (suc room) = refl
-
 module _ (room : ℕ) (bytes : List ℕ) (f : is_end bytes ≡ false) where
-  goes_on : (p : Part) → part_in bytes ≡ Is p → read_elements (suc room) bytes ≡ after (element p ∷ []) (read_elements room (drop (width_of p) bytes))
+  goes_on : (p : Part) → part_in bytes ≡ Some p → read_elements (suc room) bytes ≡ after (element p ∷ []) (read_elements room (drop (width_of p) bytes))
   unfolding read_elements
   goes_on p h = rw (f, h)
 
-  breaks : part_in bytes ≡ Broken → read_elements (suc room) bytes ≡ refusal 3
+  breaks : part_in bytes ≡ None → read_elements (suc room) bytes ≡ refusal 3
   unfolding read_elements
   breaks h = rw (f, h)
 
 module _ (bytes : List ℕ) (f : is_end bytes ≡ false) where
-  another : get_or bytes 0 0 ≡ 0xF2 → read_elements 0 bytes ≡ refusal 4
+  another : eqb (get_or bytes 0 0) 0xF2 ≡ true → read_elements 0 bytes ≡ refusal 4
   unfolding read_elements
-  another h = rw (f, eq-eqb (get_or bytes 0 0) 0xF2 h)
+  another h = rw (f, h)
 
-  no_other : (get_or bytes 0 0 ≡ 0xF2 → ⊥) → read_elements 0 bytes ≡ refusal 3
+  no_other : eqb (get_or bytes 0 0) 0xF2 ≡ false → read_elements 0 bytes ≡ refusal 3
   unfolding read_elements
-  no_other h = rw (f, ne_eqb (get_or bytes 0 0) 0xF2 h)
+  no_other h = rw (f, h)
 
--- The loop: es are the elements so far, which the first cells hold, and the bytes read to es and then to what the rest reads to.
-pub record Reading (bytes : List ℕ) (cells : List Element) (count at : ℕ) : Type 0 where
+-- The loop: es are the elements so far, which the first cells of x hold, and the bytes read to es and then to what the rest reads to.
+pub record Reading (bytes : List ℕ) (x : Expression) (rest : List ℕ) : Type 0 where
   pub es : List Element
-  pub held : cells ≡ es ++ replicate (32 - count) blank
-  pub counted : length es ≡ count
-  pub most : count ≤ 32
-  pub reads : read_list bytes ≡ after es (read_elements (32 - count) (drop at bytes))
+  pub held : x.elements ≡ es ++ replicate (32 - x.count) blank
+  pub counted : length es ≡ x.count
+  pub most : x.count ≤ 32
+  pub reads : read_elements 32 bytes ≡ after es (read_elements (32 - x.count) rest)
 
-pub reading-begin : (bytes : List ℕ) → get_or bytes 0 0 ≡ 0xF0 → Reading bytes (replicate 32 blank) 0 1
-unfolding read_list
-reading-begin bytes e = record {
+pub reading_begin : (bytes : List ℕ) (x : Expression) → x ≡ record { elements = replicate 32 blank; count = 0 } → Reading bytes x bytes
+reading_begin bytes x e = record {
   es = [];
-  held = refl;
-  counted = refl;
-  most = omega arith;
-  reads = rw (eq-eqb (get_or bytes 0 0) 0xF0 e) (after_none (read_elements 32 (drop 1 bytes)));
+  held = rw e;
+  counted = rw e;
+  most = rw e (omega arith);
+  reads = rw e (after_none (read_elements 32 bytes));
 }
 
-module _ (bytes : List ℕ) (cells : List Element) (count at : ℕ) (r : Reading bytes cells count at) where
-  -- a refusal of the rest is one of the whole
-  rest-refused : (room n : ℕ) → 32 - count ≡ room → read_elements room (drop at bytes) ≡ refusal n → read_list bytes ≡ refusal n
-  rest-refused room n e h = r.reads ∙ rw (e, h)
+module _ (bytes : List ℕ) (x : Expression) (rest : List ℕ) (r : Reading bytes x rest) where
+  pub reading_done : (end : Bool) → end ≡ is_end rest → end ≡ true → Tells (read_elements 32 bytes) (Ok x)
+  reading_done end e h =
+      let ended = ends (32 - x.count) rest (sym e ∙ h) in
+      let all : read_elements 32 bytes ≡ elements r.es = r.reads ∙ rw (ended, append-nil) in
+      rw (all, r.counted, ← r.held)
 
-  pub reading-cut : length bytes ≤ at → read_list bytes ≡ refusal 3
-  reading-cut h = rest-refused (32 - count) 3 refl (rw (drop_of_length-le bytes h) (cut (32 - count)))
+  module _ (end : Bool) (e : end ≡ is_end rest) (h : end ≡ false) where
+    open-yet : is_end rest ≡ false
+    open-yet = sym e ∙ h
 
-  -- `end` and `head` are what the calls said of the part
-  module _ (end : Bool) (e : end ≡ is_end (part_from bytes at)) where
-    pub reading-done : end ≡ true → Tells (read_list bytes) (record { answer = Done; expression = record { elements = cells; count = count } })
-    reading-done h =
-        let ended = ends (32 - count) (drop at bytes) (part_says is_end bytes at end true e h) in
-        let all : read_list bytes ≡ elements r.es = r.reads ∙ rw (ended, append-nil) in
-        record { answer = rw all; expression = rw (all, r.counted, r.held) }
+    -- a refusal of the rest is one of the whole
+    rest-refused : (room n : ℕ) (reason : Refusal) → 32 - x.count ≡ room → read_elements room rest ≡ refusal n → number_of reason ≡ n
+        → Tells (read_elements 32 bytes) (Err reason)
+    rest-refused room n reason k q z =
+        let all : read_elements 32 bytes ≡ refusal n = r.reads ∙ rw (k, q) in
+        rw (all, z)
 
-    module _ (h : end ≡ false) where
-      open-yet : is_end (drop at bytes) ≡ false
-      open-yet = part_says is_end bytes at end false e h
+    -- where there is no room left
+    module _ (full : x.count ≡ 32) (marked : Bool) (m : marked ≡ starts_with nat_eq rest (0xF2 ∷ [])) where
+      pub reading_long : marked ≡ true → Tells (read_elements 32 bytes) (Err TooLong)
+      reading_long b = rest-refused 0 4 TooLong (omega arith) (another rest open-yet (sym (first_is rest 0xF2 (λ e. absurd (omega arith))) ∙ sym m ∙ b)) refl
 
-      first_byte : get_or (drop at bytes) 0 0 ≡ get_or bytes at 0
-      first_byte = rw (get_or-drop, add-zero)
+      pub reading_other : marked ≡ false → Tells (read_elements 32 bytes) (Err NotTokens)
+      reading_other b = rest-refused 0 3 NotTokens (omega arith) (no_other rest open-yet (sym (first_is rest 0xF2 (λ e. absurd (omega arith))) ∙ sym m ∙ b)) refl
 
-      pub reading-long : 32 ≤ count → get_or bytes at 0 ≡ 0xF2 → read_list bytes ≡ refusal 4
-      reading-long l b = rest-refused 0 4 (omega arith) (another (drop at bytes) open-yet (first_byte ∙ b))
+    -- where there is
+    module _ (more : x.count ≡ 32 → ⊥) where
+      fewer : x.count < 32
+      fewer = omega (arith, r.most, more)
 
-      pub reading-other : 32 ≤ count → (get_or bytes at 0 ≡ 0xF2 → ⊥) → read_list bytes ≡ refusal 3
-      reading-other l n = rest-refused 0 3 (omega arith) (no_other (drop at bytes) open-yet (λ b. n (sym first_byte ∙ b)))
+      room : 32 - x.count ≡ suc (32 - (x.count + 1))
+      room = omega (arith, fewer)
 
-      module _ (l : count < 32) (head : Head) (q : head ≡ part_in (part_from bytes at)) where
-        room : 32 - count ≡ suc (32 - (count + 1))
-        room = omega arith
+      module _ (head : Option Part) (q : head ≡ part_in rest) where
+        pub reading_broken : head ≡ None → Tells (read_elements 32 bytes) (Err NotTokens)
+        reading_broken b =
+            rest-refused (suc (32 - (x.count + 1))) 3 NotTokens room (breaks (32 - (x.count + 1)) rest open-yet (sym q ∙ b)) refl
 
-        pub reading-broken : head ≡ Broken → read_list bytes ≡ refusal 3
-        reading-broken b =
-            let broken = breaks (32 - (count + 1)) (drop at bytes) open-yet (part_says part_in bytes at head Broken q b) in
-            rest-refused (suc (32 - (count + 1))) 3 room broken
-
-        pub reading-again : (p : Part) (width : ℕ) → head ≡ Is p → width ≡ width_of p
-            → Reading bytes (set cells count (element p)) (count + 1) (at + width)
-        reading-again p width b w =
-            let next = goes_on (32 - (count + 1)) (drop at bytes) open-yet p (part_says part_in bytes at head (Is p) q b) in
+        pub reading_again : (p : Part) (width : ℕ) → head ≡ Some p → width ≡ width_of p → width ≤ length rest
+            → Reading bytes (record { elements = slice_set x.elements x.count (element p); count = x.count + 1 }) (take (length rest - width) (drop width rest))
+        reading_again p width b w l =
+            let next = goes_on (32 - (x.count + 1)) rest open-yet p (sym q ∙ b) in
+            let d : take (length rest - width) (drop width rest) ≡ drop (width_of p) rest =
+            take_all (length rest - width) (drop width rest) (rw (length-drop width rest) (omega arith)) ∙ ap (λ (k : ℕ). drop k rest) w in
             record {
               es = r.es ++ element p ∷ [];
               held = rw (
                 r.held,
                 room,
-                set_at r.es blank (replicate (32 - (count + 1)) blank) (element p) count r.counted,
-                append_assoc r.es (element p ∷ []) (replicate (32 - (count + 1)) blank),
+                set_at r.es blank (replicate (32 - (x.count + 1)) blank) (element p) x.count r.counted,
+                append_assoc r.es (element p ∷ []) (replicate (32 - (x.count + 1)) blank),
               );
               counted = rw (length-append, r.counted);
-              most = omega arith;
-              reads = r.reads ∙ rw (room, next, after_one, drop-drop, w);
+              most = omega (arith, fewer);
+              reads = r.reads ∙ rw (room, next, after_one, d);
             }
 
--- what `read` tests before the list: the length, and the first byte
+-- what `read` tests before the elements: the length, and the first byte
 
-pub too_many : (bytes : List ℕ) → most_token_bytes < length bytes → read_tokens bytes ≡ refusal 2
+pub too_many : (bytes : List ℕ) → most_token_bytes < length bytes → Tells (read_tokens bytes) (Err OutOfRange)
 unfolding read_tokens
-too_many bytes h = rw (lt-ltb most_token_bytes (length bytes) h)
+too_many bytes h = rw (lt-ltb most_token_bytes (length bytes) h) refl
 
-module _ (bytes : List ℕ) (h : length bytes ≤ most_token_bytes) where
-  pub few : read_tokens bytes ≡ read_list bytes
-  unfolding read_tokens
-  few = rw (le-ltb most_token_bytes (length bytes) h)
+pub few : (bytes : List ℕ) → length bytes ≤ most_token_bytes → read_tokens bytes ≡ read_list bytes
+unfolding read_tokens
+few bytes h = rw (le-ltb most_token_bytes (length bytes) h)
 
-  pub no_start : (get_or bytes 0 0 ≡ 0xF0 → ⊥) → read_tokens bytes ≡ refusal 3
+module _ (bytes : List ℕ) (h : length bytes ≤ most_token_bytes) (t : Bool) (e : t ≡ starts_with nat_eq bytes (0xF0 ∷ [])) where
+  first : eqb (get_or bytes 0 0) 0xF0 ≡ t
+  first = sym (e ∙ first_is bytes 0xF0 (λ k. absurd (omega arith)))
+
+  pub no_start : t ≡ false → Tells (read_tokens bytes) (Err NotTokens)
   unfolding read_list
-  no_start n = few ∙ rw (ne_eqb (get_or bytes 0 0) 0xF0 n)
+  no_start f = rw (few bytes h, first, f) refl
 
-  pub list_tells : (t : Tokens) → Tells (read_list bytes) t → Tells (read_tokens bytes) t
-  list_tells t k = rw few k
-
-pub no_bytes : (bytes : List ℕ) → length bytes ≡ 0 → read_tokens bytes ≡ refusal 3
-no_bytes bytes e =
-    no_start bytes (omega arith) (λ b. let z : get_or bytes 0 0 ≡ 0 = get_or-eq_default bytes 0 (omega arith) in omega arith)
-
-pub width-most : (p : Part) → width_of p ≤ 12
-width-most (Reference row) = omega arith
-width-most (Operator code) = omega arith
+  pub list_tells : (r : Result Expression Refusal) → t ≡ true → Tells (read_elements 32 (take (length bytes - 1) (drop 1 bytes))) r → Tells (read_tokens bytes) r
+  unfolding read_list
+  list_tells r f k =
+      let d : take (length bytes - 1) (drop 1 bytes) ≡ drop 1 bytes = take_all (length bytes - 1) (drop 1 bytes) (rw (length-drop 1 bytes) (omega arith)) in
+      rw (few bytes h, first, f) (rw d at k)

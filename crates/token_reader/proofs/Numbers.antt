@@ -7,10 +7,10 @@ use lib.Dec.{eqb}
 use lib.ListN.{length, get_or, drop}
 use borrow.Author.Tests.{le-ltb}
 use Rattle.base.proofs.Cases.{cond_both}
+use Rattle.expression.specs.declared.Part.{Part}
 use Rattle.expression.specs.declared.Element.{Element}
 use Rattle.expression.specs.Elements.{element}
-use Rattle.token_reader.specs.declared.Head.{Head}
-use Rattle.token_reader.specs.declared.Head.TheVariants.{Is, Broken}
+use Rattle.std.specs.Prelude.{Option, Some, None}
 use Rattle.token_reader.specs.Format.{part_in, width_of, is_end}
 use Rattle.token_reader.specs.Read.{most_token_bytes, TokenOutcome, elements, refusal, followed, and_then, read_elements, read_list, read_tokens, answer_in}
 
@@ -32,10 +32,10 @@ elements-numbers (suc room) bytes =
     cond_both Numbered (is_end bytes) (elements []) (and_then bytes (part_in bytes) (λ rest. read_elements room rest)) (inl refl)
     (go (λ rest. elements-numbers room rest) (part_in bytes))
   where
-    go : ((rest : List ℕ) → DoneOrBroken (answer_in (read_elements room rest))) → (h : Head)
+    go : ((rest : List ℕ) → DoneOrBroken (answer_in (read_elements room rest))) → (h : Option Part)
         → DoneOrBroken (answer_in (and_then bytes h (λ rest. read_elements room rest)))
-    go more (Is p) = one_more (element p) (read_elements room (drop (width_of p) bytes)) (more (drop (width_of p) bytes))
-    go more Broken = inr (inl refl)
+    go more (Some p) = one_more (element p) (read_elements room (drop (width_of p) bytes)) (more (drop (width_of p) bytes))
+    go more None = inr (inl refl)
 
 pub read-numbers : (bytes : List ℕ) → length bytes ≤ most_token_bytes → DoneOrBroken (answer_in (read_tokens bytes))
 unfolding read_tokens read_list

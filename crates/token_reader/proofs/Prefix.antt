@@ -1,46 +1,53 @@
--- Bytes that are tested in place: the end mark of an element, and the loop that tests a prefix.
-use mathlib.Core.Path.{◌≡◌, refl, ◌∙◌}
-use Prim.Native.Nat.{ℕ, ◌+◌, ◌≤◌, ◌<◌}
-use native.Mathlib.Numerals.{add-one}
-use native.Mathlib.Omega.{arith}
-use mathlib.Core.Bool.{true, false, ◌&&◌}
-use mathlib.Core.List.{List}
+-- Bytes that begin with a prefix, as the library tests it.
+use mathlib.Core.Path.{◌≡◌, refl, sym, ap, ◌∙◌}
+use Prim.Native.Nat.{ℕ}
+use Rattle.std.proofs.Math.Bool.{and-true}
+use mathlib.Core.Bool.{Bool, true, false, ◌&&◌}
+use mathlib.Core.List.{List, [], ◌∷◌}
 use lib.Dec.{eqb}
-use lib.ListN.{length, get_or, drop, drop_of_length-le, get_or-eq_default}
-use lib.Seq.{drop-cons}
-use borrow.Author.Tests.{eq-eqb, ne_eqb}
-use Rattle.token_reader.specs.Format.{starts_with}
+use lib.ListN.{get_or}
+use borrow.Author.Tests.{eqb-true, eq-eqb, ne_eqb}
+use Rattle.std.specs.Prelude.{Option, None, nat_eq}
+use Rattle.std.specs.List as std
+use Rattle.expression.specs.declared.Part.{Part}
+use Rattle.token_reader.specs.Format.{reference_prefix, operator_prefix, starts_with, reference_in, operator_in, part_in}
 
--- a byte that is missing is no end mark
-pub no-mark : (bytes : List ℕ) (i : ℕ) → length bytes ≤ i → eqb (get_or bytes i 0) 0xF3 ≡ false
-no-mark bytes i h = rw (get_or-eq_default bytes 0 {n = i} h)
+eqb_sym : (a b : ℕ) → eqb a b ≡ eqb b a
+eqb_sym a b = go (eqb b a) refl
+  where
+    go : (t : Bool) → eqb b a ≡ t → eqb a b ≡ t
+    go true q = eq-eqb a b (sym (eqb-true b a q))
+    go false q = ne_eqb a b (λ e. let z : eqb b a ≡ true = eq-eqb b a (sym e) in cc)
 
--- at place i the answer for the whole is the answer for what is left of both
-pub record Matching (prefix bytes : List ℕ) (i : ℕ) : Type 0 where
-  pub low : i ≤ length prefix
-  pub same : starts_with prefix bytes ≡ starts_with (drop i prefix) (drop i bytes)
+starts_same : (prefix bytes : List ℕ) → std.starts_with nat_eq bytes prefix ≡ starts_with prefix bytes
+unfolding starts_with
+starts_same [] bytes = refl
+starts_same (p ∷ prefix) [] = refl
+starts_same (p ∷ prefix) (b ∷ bytes) =
+    ap (λ (t : Bool). nat_eq p b && t) (starts_same prefix bytes) ∙ ap (λ (t : Bool). t && starts_with prefix bytes) (eqb_sym p b)
 
-pub match-begin : (prefix bytes : List ℕ) → Matching prefix bytes 0
-match-begin prefix bytes = record { low = omega arith; same = refl }
+-- of one byte
+pub first_is : (bytes : List ℕ) (b : ℕ) → (b ≡ 0 → ⊥) → std.starts_with nat_eq bytes (b ∷ []) ≡ eqb (get_or bytes 0 0) b
+first_is [] b n = sym (ne_eqb 0 b (λ e. n (sym e)))
+first_is (x ∷ bytes) b n = and-true (eqb b x) ∙ eqb_sym b x
 
-module _ (prefix bytes : List ℕ) (i : ℕ) (m : Matching prefix bytes i) where
-  pub match-done : length prefix ≤ i → true ≡ starts_with prefix bytes
-  unfolding starts_with
-  match-done h = rw (m.same, drop_of_length-le prefix h)
+-- what begins the bytes, by the tests of both prefixes
+module _ (bytes : List ℕ) (t : Bool) (e : t ≡ std.starts_with nat_eq bytes reference_prefix) where
+  of_reference : starts_with reference_prefix bytes ≡ t
+  of_reference = sym (e ∙ starts_same reference_prefix bytes)
 
-  module _ (l : i < length prefix) where
-    pub match-short : length bytes ≤ i → false ≡ starts_with prefix bytes
-    unfolding starts_with
-    match-short h = rw (m.same, drop-cons prefix i 0, drop_of_length-le bytes h)
+  pub reference_first : (r : Option Part) → t ≡ true → r ≡ reference_in bytes → r ≡ part_in bytes
+  unfolding part_in
+  reference_first r h q = rw (of_reference, h) q
 
-    -- the next byte of both
-    step : i < length bytes
-        → starts_with prefix bytes ≡ eqb (get_or bytes i 0) (get_or prefix i 0) && starts_with (drop (i + 1) prefix) (drop (i + 1) bytes)
-    unfolding starts_with
-    step h = m.same ∙ rw (drop-cons prefix i 0, drop-cons bytes i 0, add-one)
+  module _ (h : t ≡ false) (u : Bool) (f : u ≡ std.starts_with nat_eq bytes operator_prefix) where
+    of_operator : starts_with operator_prefix bytes ≡ u
+    of_operator = sym (f ∙ starts_same operator_prefix bytes)
 
-    pub match-other : i < length bytes → (get_or bytes i 0 ≡ get_or prefix i 0 → ⊥) → false ≡ starts_with prefix bytes
-    match-other h n = rw (step h, ne_eqb (get_or bytes i 0) (get_or prefix i 0) n)
+    pub operator_first : (r : Option Part) → u ≡ true → r ≡ operator_in bytes → r ≡ part_in bytes
+    unfolding part_in
+    operator_first r k q = rw (of_reference, h, of_operator, k) q
 
-    pub match-again : i < length bytes → get_or bytes i 0 ≡ get_or prefix i 0 → Matching prefix bytes (i + 1)
-    match-again h e = record { low = omega arith; same = step h ∙ rw (eq-eqb (get_or bytes i 0) (get_or prefix i 0) e) }
+    pub neither_first : u ≡ false → None ≡ part_in bytes
+    unfolding part_in
+    neither_first k = rw (of_reference, h, of_operator, k) refl

@@ -1,10 +1,8 @@
 -- Document 01, 'Expressions as tokens' (002, table 7; 003): the bytes of a list of elements, one element in them, and the end of the list.
-use Rattle.std.specs.Prelude.{ℕ, ◌+◌, ◌*◌, ◌/◌, ◌%◌, Bool, true, false, cond, ◌&&◌, List, [], ◌∷◌, ◌++◌, eqb, leb, length, get_or}
+use Rattle.std.specs.Prelude.{ℕ, ◌+◌, ◌*◌, ◌/◌, ◌%◌, Bool, true, false, cond, ◌&&◌, List, [], ◌∷◌, ◌++◌, Option, Some, None, eqb, leb, length, get_or}
 use Rattle.expression.specs.declared.Part.{Part}
 use Rattle.expression.specs.declared.Part.TheVariants.{Reference, Operator}
 use Rattle.expression.specs.declared.Element.{Element}
-use Rattle.token_reader.specs.declared.Head.{Head}
-use Rattle.token_reader.specs.declared.Head.TheVariants.{Is, Broken}
 
 -- "A reference is F2 A4 00 00 0C 0E A4, four row bytes high first, F3 (12 bytes)."
 abbrev pub reference_prefix : List ℕ
@@ -43,18 +41,18 @@ starts_with (p ∷ prefix) [] = false
 starts_with (p ∷ prefix) (b ∷ bytes) = eqb b p && starts_with prefix bytes
 
 -- the rest of a reference and of an operator. A byte past the end is read as 0, so an F3 in its place says that no byte is missing.
-abbrev pub reference_in : List ℕ → Head
+abbrev pub reference_in : List ℕ → Option Part
 reference_in bytes =
     cond (eqb (get_or bytes 11 0) 0xF3)
-    (Is (Reference (four_bytes (get_or bytes 7 0) (get_or bytes 8 0) (get_or bytes 9 0) (get_or bytes 10 0))))
-    Broken
+    (Some (Reference (four_bytes (get_or bytes 7 0) (get_or bytes 8 0) (get_or bytes 9 0) (get_or bytes 10 0))))
+    None
 
-abbrev pub operator_in : List ℕ → Head
-operator_in bytes = cond (eqb (get_or bytes 7 0) 0xF3) (cond (leb (get_or bytes 6 0) 2) (Is (Operator (get_or bytes 6 0))) Broken) Broken
+abbrev pub operator_in : List ℕ → Option Part
+operator_in bytes = cond (eqb (get_or bytes 7 0) 0xF3) (cond (leb (get_or bytes 6 0) 2) (Some (Operator (get_or bytes 6 0))) None) None
 
 -- the element that begins the bytes. "No other atom form is read."
-unfoldable pub part_in : List ℕ → Head
-part_in bytes = cond (starts_with reference_prefix bytes) (reference_in bytes) (cond (starts_with operator_prefix bytes) (operator_in bytes) Broken)
+unfoldable pub part_in : List ℕ → Option Part
+part_in bytes = cond (starts_with reference_prefix bytes) (reference_in bytes) (cond (starts_with operator_prefix bytes) (operator_in bytes) None)
 
 -- "then F1, then no more bytes"
 unfoldable pub is_end : List ℕ → Bool

@@ -1,99 +1,68 @@
 -- The passes over a list of numbers, a number a turn: each record is what the loop knows after i turns, with the laws of its start, a turn
 -- and its end.
 use mathlib.Core.Path.{◌≡◌, refl, sym, ap, ◌∙◌}
-use Prim.Native.Nat.{ℕ, zero, suc, ◌+◌, ◌-◌, ◌*◌, ◌≤◌, ◌<◌}
+use Prim.Native.Nat.{ℕ, zero, suc, ◌+◌, ◌*◌, ◌≤◌, ◌<◌}
 use native.Mathlib.Nat.{add_assoc}
 use native.Mathlib.Omega.{arith}
-use mathlib.Core.Bool.{true, false}
-use mathlib.Core.List.{List, [], ◌∷◌, ◌++◌, append_assoc, append-nil}
+use mathlib.Core.Bool.{Bool, true, ◌&&◌}
+use mathlib.Core.List.{List, [], ◌∷◌, ◌++◌, append_assoc, append-nil, map}
 use lib.Dec.{leb}
-use lib.ListN.{length, get_or, take, drop, set, length-append, length-set, drop_of_length-le, take-append-drop}
+use lib.ListN.{length, get_or, take, drop, set, length-append, length-set, drop_of_length-le, take-append-drop, length-map}
 use mir.Syntax.{w64}
 use mir.Val.{Fits}
-use borrow.Author.Tests.{le-leb, lt-leb, leb-true}
+use borrow.Author.Tests.{leb-true}
+use Rattle.std.specs.List.{list_all}
+use Rattle.std.specs.Array.{IsMapOf}
+use denote.Param.Members.{Mut, Called}
+use Rattle.std.proofs.lemmas.List.{same_lists, get_or-map}
 use Rattle.base.specs.Spliced.{spliced}
 use Rattle.base.proofs.Lists.{rest_from}
 use Rattle.base.proofs.Spliced.{splice-twice, set-splice}
 use Rattle.base.proofs.Cases.{and_left, and_right}
-use Rattle.base.proofs.Loops.{Filled, fill-begin as filled-begin, fill-again as filled-again, fill_done as filled-done}
 use Rattle.expression.specs.declared.Part.{Part}
 use Rattle.expression.specs.declared.Part.TheVariants.{Reference, Operator}
-use Rattle.expression.specs.declared.Element.{Element}
-use Rattle.expression.specs.Elements.{element}
 use Rattle.token_reader.specs.Format.{width_of, part_bytes, body_of, bytes_of}
-use Rattle.token_reader.proofs.Listing.{width-most}
-use Rattle.token_writer.specs.Write.{part_of, code_of, codes_of, codes_fit, elements_of, needed_for}
+use Rattle.token_writer.specs.Write.{part_of, codes_fit, elements_of, needed_for}
 
 none_left : (codes : List ℕ) (i : ℕ) → length codes ≤ i → drop i codes ≡ []
 none_left codes i h = drop_of_length-le codes {i = i} h
 
--- whether every number fits
-
-pub record Fitting (codes : List ℕ) (i : ℕ) : Type 0 where
-  pub low : i ≤ length codes
-  pub same : codes_fit codes ≡ codes_fit (drop i codes)
-
-pub fit-begin : (codes : List ℕ) → Fitting codes 0
-fit-begin codes = record { low = omega arith; same = refl }
-
-module _ (codes : List ℕ) (i : ℕ) (f : Fitting codes i) where
-  pub fit-again : i < length codes → get_or codes i 0 ≤ 4294967298 → Fitting codes (i + 1)
-  unfolding codes_fit
-  fit-again h k = record { low = omega arith; same = f.same ∙ rw (rest_from codes i h, le-leb (get_or codes i 0) 4294967298 k) }
-
-  pub fit-broken : i < length codes → 4294967298 < get_or codes i 0 → false ≡ codes_fit codes
-  unfolding codes_fit
-  fit-broken h k = rw (f.same, rest_from codes i h, lt-leb (get_or codes i 0) 4294967298 k)
-
-  pub fit-done : length codes ≤ i → true ≡ codes_fit codes
-  unfolding codes_fit
-  fit-done h = rw (f.same, none_left codes i h)
+-- whether every number fits, by the library's word
+pub all_fit : (codes : List ℕ) → list_all (λ n. leb n 4294967298) codes ≡ codes_fit codes
+unfolding codes_fit
+all_fit [] = refl
+all_fit (n ∷ codes) = ap (λ (t : Bool). leb n 4294967298 && t) (all_fit codes)
 
 -- each number of a list that fits
-pub fits-at : (codes : List ℕ) (i : ℕ) → codes_fit codes ≡ true → i < length codes → get_or codes i 0 ≤ 4294967298
+pub fits_at : (codes : List ℕ) (i : ℕ) → codes_fit codes ≡ true → i < length codes → get_or codes i 0 ≤ 4294967298
 unfolding codes_fit
-fits-at [] i f h = absurd (omega arith)
-fits-at (n ∷ codes) zero f h = leb-true n 4294967298 (and_left (leb n 4294967298) (codes_fit codes) f)
-fits-at (n ∷ codes) (suc i) f h = fits-at codes i (and_right (leb n 4294967298) (codes_fit codes) f) (omega arith)
+fits_at [] i f h = absurd (omega arith)
+fits_at (n ∷ codes) zero f h = leb-true n 4294967298 (and_left (leb n 4294967298) (codes_fit codes) f)
+fits_at (n ∷ codes) (suc i) f h = fits_at codes i (and_right (leb n 4294967298) (codes_fit codes) f) (omega arith)
 
--- the numbers of an array's elements: those of the first i are written, and each says its element
+-- the numbers of an array's elements, each by a call
 
-abbrev first : Element
-first = element (Reference 0)
+module _ {F A B : Type 0} (g : Mut F (A × Unit {0}) B) (f : F) (xs : List A) (ys : List B) (n : ℕ) (m : IsMapOf g f xs ys n) (l : length xs ≡ n) (a : A) (b : B) where
+  pub mapped : (h : A → B) → ((p q : F) (x : A) (y : B) → Called g p (x, tt) y q → y ≡ h x) → ys ≡ map h xs
+  mapped h c =
+      same_lists ys (map h xs) (m.long ∙ sym l ∙ sym (length-map xs h))
+      (λ k d q.
+      let w = m.at k a d (omega (arith, m.long)) in
+      c w.0 w.1 (get_or xs k a) (get_or ys k d) w.2 ∙ sym (get_or-map h xs k a d (omega (arith, m.long))))
 
-abbrev Says : Element → Type 0
-Says e = part_of (code_of e.part) ≡ e.part
-
-pub record Numbering (es : List Element) (out₀ out : List ℕ) (i : ℕ) : Type 0 where
-  pub filled : Filled (λ (e : Element). code_of e.part) 32 es out₀ out i
-  pub says : (j : ℕ) → j < i → Says (get_or es j first)
-
-pub number-begin : (es : List Element) (out : List ℕ) → length es ≡ 32 → length out ≡ 32 → Numbering es out out 0
-number-begin es out h k = record { filled = filled-begin _ 32 es out h k; says = λ j l. absurd (omega arith) }
-
-all_say : (es : List Element) → ((j : ℕ) → j < length es → Says (get_or es j first)) → elements_of (codes_of es) ≡ es
-all_say [] h = refl
-all_say (e ∷ es) h = rw (h 0 (omega arith), all_say es (λ j l. h (suc j) (omega arith)))
-
-module _ (es : List Element) (out₀ out : List ℕ) (i : ℕ) (n : Numbering es out₀ out i) where
-  pub number-again : (v : ℕ) → i < 32 → v ≡ code_of (get_or es i first).part → part_of v ≡ (get_or es i first).part
-      → Numbering es out₀ (set out i v) (i + 1)
-  number-again v l e b = record {
-    filled = filled-again _ 32 es out₀ out i v first n.filled l e;
-    says = λ j h. go j (i - j) refl h;
-  }
-    where
-      go : (j k : ℕ) → i - j ≡ k → j < i + 1 → Says (get_or es j first)
-      go j zero q h = let s : j ≡ i = omega arith in rw s (ap part_of (sym e) ∙ b)
-      go j (suc k) q h = n.says j (omega arith)
-
-  pub number-done : 32 ≤ i → out ≡ codes_of es
-  number-done h = filled-done _ 32 es out₀ out i n.filled h
-
-  pub number-back : 32 ≤ i → elements_of out ≡ es
-  number-back h = ap elements_of (number-done h) ∙ all_say es (λ j l. n.says j (omega (arith, n.filled.long)))
+  pub mapped_back : (u : B → A) → ((p q : F) (x : A) (y : B) → Called g p (x, tt) y q → u y ≡ x) → map u ys ≡ xs
+  mapped_back u c =
+      same_lists (map u ys) xs (length-map ys u ∙ m.long ∙ sym l)
+      (λ k d q.
+      let r : k < length ys = rw (length-map ys u) at q in
+      let w = m.at k d b (omega (arith, m.long)) in
+      get_or-map u ys k b d r ∙ c w.0 w.1 (get_or xs k d) (get_or ys k b) w.2)
 
 -- the bytes needed
+
+pub width-most : (p : Part) → width_of p ≤ 12
+width-most (Reference row) = omega arith
+width-most (Operator code) = omega arith
 
 pub width_is : (p : Part) → length (part_bytes p) ≡ width_of p
 width_is (Reference row) = refl
@@ -104,13 +73,13 @@ pub record Sizing (codes : List ℕ) (total i : ℕ) : Type 0 where
   pub sizes : total + needed_for (elements_of (drop i codes)) ≡ 2 + needed_for (elements_of codes)
   pub most : total ≤ 2 + 12 * i
 
-pub size-begin : (codes : List ℕ) → Sizing codes 2 0
-size-begin codes = record { low = omega arith; sizes = refl; most = omega arith }
+pub size_begin : (codes : List ℕ) → Sizing codes 2 0
+size_begin codes = record { low = omega arith; sizes = refl; most = omega arith }
 
 module _ (codes : List ℕ) (total i : ℕ) (s : Sizing codes total i) where
-  pub size-again : (p : Part) (w : ℕ) → i < length codes → p ≡ part_of (get_or codes i 0) → w ≡ width_of p → Sizing codes (total + w) (i + 1)
+  pub size_again : (p : Part) (w : ℕ) → i < length codes → p ≡ part_of (get_or codes i 0) → w ≡ width_of p → Sizing codes (total + w) (i + 1)
   unfolding needed_for
-  size-again p w h e q =
+  size_again p w h e q =
       let m : w ≤ 12 = omega (arith, width-most p) in
       let t : total + (width_of (part_of (get_or codes i 0)) + needed_for (elements_of (drop (i + 1) codes))) ≡ 2 + needed_for (elements_of codes) =
       rw (rest_from codes i h) at s.sizes in
@@ -119,9 +88,9 @@ module _ (codes : List ℕ) (total i : ℕ) (s : Sizing codes total i) where
   pub size_small : (p : Part) (w : ℕ) → length codes ≤ 32 → w ≡ width_of p → Fits w64 (total + w)
   size_small p w h q = omega (arith, width-most p, s.most, s.low)
 
-  pub size-done : length codes ≤ i → total ≡ needed_for (elements_of codes)
+  pub size_done : length codes ≤ i → total ≡ needed_for (elements_of codes)
   unfolding needed_for
-  size-done h =
+  size_done h =
       let t : total + 2 ≡ 2 + needed_for (elements_of codes) = rw (none_left codes i h) at s.sizes in
       omega arith
 
@@ -136,8 +105,8 @@ pub record Writing (d codes out : List ℕ) (at i : ℕ) : Type 0 where
   pub left : w ++ body_of (elements_of (drop i codes)) ≡ body_of (elements_of codes)
   pub long : length out ≡ length d
 
-pub fill-begin : (d₀ codes : List ℕ) (b : ℕ) → length (bytes_of (elements_of codes)) ≤ length d₀ → Writing (set d₀ 0 b) codes (set d₀ 0 b) 1 0
-fill-begin d₀ codes b h = record {
+pub fill_begin : (d₀ codes : List ℕ) (b : ℕ) → length (bytes_of (elements_of codes)) ≤ length d₀ → Writing (set d₀ 0 b) codes (set d₀ 0 b) 1 0
+fill_begin d₀ codes b h = record {
   low = omega arith;
   room = rw length-set h;
   w = [];
@@ -148,26 +117,26 @@ fill-begin d₀ codes b h = record {
 }
 
 -- there is room for the start of the list
-pub fill-first : (d codes : List ℕ) → length (bytes_of (elements_of codes)) ≤ length d → 0 < length d
-fill-first d codes h = omega arith
+pub fill_first : (d codes : List ℕ) → length (bytes_of (elements_of codes)) ≤ length d → 0 < length d
+fill_first d codes h = omega arith
 
 module _ (d codes out : List ℕ) (at i : ℕ) (s : Writing d codes out at i) where
   -- what is left takes the rest of the room
   taken : at + length (body_of (elements_of (drop i codes))) ≡ length (bytes_of (elements_of codes))
   taken = omega (arith, s.place, simp length-append at (ap length s.left))
 
-  pub fill-room : (p : Part) → i < length codes → p ≡ part_of (get_or codes i 0) → at + width_of p ≤ length out
+  pub fill_room : (p : Part) → i < length codes → p ≡ part_of (get_or codes i 0) → at + width_of p ≤ length out
   unfolding body_of
-  fill-room p h e =
+  fill_room p h e =
       let b : List ℕ = part_bytes (part_of (get_or codes i 0)) in
       let l : length (body_of (elements_of (drop i codes))) ≡ length b + length (body_of (elements_of (drop (i + 1) codes))) =
       rw (rest_from codes i h, length-append) in
       rw e (omega (arith, taken, l, width_is (part_of (get_or codes i 0)), s.room, s.long))
 
-  pub fill-again : (p : Part) (w : ℕ) (next : List ℕ) → i < length codes → p ≡ part_of (get_or codes i 0) → w ≡ width_of p
+  pub fill_again : (p : Part) (w : ℕ) (next : List ℕ) → i < length codes → p ≡ part_of (get_or codes i 0) → w ≡ width_of p
       → next ≡ spliced out at (part_bytes p) → length next ≡ length out → Writing d codes next (at + w) (i + 1)
   unfolding body_of
-  fill-again p w next h e q n k =
+  fill_again p w next h e q n k =
       let b : List ℕ = part_bytes (part_of (get_or codes i 0)) in
       let g : next ≡ spliced out at b = rw e at n in
       let c : w ≡ length b = q ∙ ap width_of e ∙ sym (width_is (part_of (get_or codes i 0))) in
@@ -184,12 +153,12 @@ module _ (d codes out : List ℕ) (at i : ℕ) (s : Writing d codes out at i) wh
       }
 
   -- the output's length fits a number, so a place in it does
-  pub fill-small : (p : Part) (w : ℕ) → i < length codes → p ≡ part_of (get_or codes i 0) → w ≡ width_of p → Fits w64 (length d) → Fits w64 (at + w)
-  fill-small p w h e q k = omega (arith, fill-room p h e, s.long)
+  pub fill_small : (p : Part) (w : ℕ) → i < length codes → p ≡ part_of (get_or codes i 0) → w ≡ width_of p → Fits w64 (length d) → Fits w64 (at + w)
+  fill_small p w h e q k = omega (arith, fill_room p h e, s.long)
 
-  pub fill-last : length codes ≤ i → at < length out
+  pub fill_last : length codes ≤ i → at < length out
   unfolding body_of
-  fill-last h =
+  fill_last h =
       let e : length (body_of (elements_of (drop i codes))) ≡ 1 = rw (none_left codes i h) in
       omega (arith, taken, e, s.room, s.long)
 
@@ -200,6 +169,6 @@ module _ (d codes out : List ℕ) (at i : ℕ) (s : Writing d codes out at i) wh
       let b : s.w ++ 0xF1 ∷ [] ≡ body_of (elements_of codes) = rw (none_left codes i h) at s.left in
       let p : spliced out at (0xF1 ∷ []) ≡ spliced d 1 (s.w ++ 0xF1 ∷ []) =
       rw (s.holds, s.place) (splice-twice d 1 s.w (0xF1 ∷ []) (omega (arith, taken, s.room, s.long))) in
-      set-splice out at 0xF1 (fill-last h)
+      set-splice out at 0xF1 (fill_last h)
       ∙ p
       ∙ rw (b, e, set-splice d₀ 0 0xF0 k) (splice-twice d₀ 0 (0xF0 ∷ []) (body_of (elements_of codes)) (omega arith))

@@ -13,13 +13,12 @@ use Rattle.expression.specs.declared.Part.{Part}
 use Rattle.expression.specs.declared.Part.TheVariants.{Reference, Operator}
 use Rattle.expression.specs.declared.Element.{Element}
 use Rattle.expression.specs.Elements.{PartFits, AllFit}
-use Rattle.token_reader.specs.declared.Head.{Head}
-use Rattle.token_reader.specs.declared.Head.TheVariants.{Is}
+use Rattle.std.specs.Prelude.{Option, Some}
 use Rattle.token_reader.specs.Format.{width_of, part_bytes, body_of, bytes_of, four_bytes, starts_with, part_in, is_end}
 use Rattle.token_reader.specs.Read.{elements, read_elements, read_list, read_tokens}
-use Rattle.token_reader.proofs.Listing.{width-most, few}
+use Rattle.token_reader.proofs.Listing.{few}
 use Rattle.token_writer.specs.Write.{part_of, code_of, elements_of, codes_of, codes_fit, needed_for}
-use Rattle.token_writer.proofs.Passes.{width_is}
+use Rattle.token_writer.proofs.Passes.{width_is, width-most}
 
 -- the bytes needed
 
@@ -85,9 +84,9 @@ not_end (Operator code) rest = and-false (eqb (length (part_bytes (Operator code
 row_back : (r : ℕ) → r < 4294967296 → four_bytes (r / 16777216) (r / 65536 % 256) (r / 256 % 256) (r % 256) ≡ r
 row_back r h = omega arith
 
-head-back : (p : Part) (rest : List ℕ) → PartFits p → part_in (part_bytes p ++ rest) ≡ Is p
+head-back : (p : Part) (rest : List ℕ) → PartFits p → part_in (part_bytes p ++ rest) ≡ Some p
 unfolding part_in starts_with
-head-back (Reference row) rest h = ap {B = Head} (λ r. Is (Reference r)) (row_back row h)
+head-back (Reference row) rest h = ap {B = Option Part} (λ r. Some (Reference r)) (row_back row h)
 head-back (Operator code) rest h = rw (le-leb code 2 h)
 
 drop-back : (p : Part) (rest : List ℕ) → drop (width_of p) (part_bytes p ++ rest) ≡ rest

@@ -1,9 +1,9 @@
 -- Document 01, 'Expressions as tokens': "The writer takes an element list, whose operator codes are 0 to 2 (else 2), at most 32 elements
 -- (else 4). It fills exactly the bytes needed from the start of the output."
-use Rattle.std.specs.Prelude.{ℕ, ◌+◌, ◌-◌, ◌≡◌, Bool, true, not, cond, ◌&&◌, List, [], ◌∷◌, map, leb, ltb, length, take}
-use Rattle.base.specs.Refusals.{Refusal, when, first_of}
-use Rattle.answer.specs.Numbers.{number_of}
-use Rattle.output.specs.declared.Written.{Written}
+use Rattle.std.specs.Prelude.{ℕ, ◌+◌, ◌-◌, ◌≡◌, Bool, true, not, cond, ◌&&◌, List, [], ◌∷◌, Result, IfOk, map, leb, ltb, length, take}
+use Rattle.base.specs.Refusals.{TableRow, when, first_of}
+use Rattle.answer.specs.declared.Refusal.{Refusal}
+use Rattle.answer.specs.Numbers.{answer_number}
 use Rattle.output.specs.Filling.{output_after, written_after}
 use Rattle.expression.specs.declared.Part.{Part}
 use Rattle.expression.specs.declared.Part.TheVariants.{Reference, Operator}
@@ -37,7 +37,7 @@ needed_for [] = 2
 needed_for (e ∷ es) = width_of e.part + needed_for es
 
 -- 2 "out of range", 4 "too long", and 11 "short buffer: the token writer's output is shorter than needed"
-abbrev pub write_refusals : List ℕ → ℕ → List Refusal
+abbrev pub write_refusals : List ℕ → ℕ → List TableRow
 write_refusals codes room =
     when 2 (not (codes_fit codes))
     ∷ when 4 (ltb most_elements (length codes))
@@ -48,11 +48,11 @@ unfoldable pub write_answer : List ℕ → ℕ → ℕ
 write_answer codes room = first_of (write_refusals codes room)
 
 -- what the writer does with a list of numbers and an output
-pub record Writes (codes out : List ℕ) (r : Written) (after : List ℕ) : Type 0 where
-  pub answer : number_of r.answer ≡ write_answer codes (length out)
-  pub count : r.count ≡ written_after (write_answer codes (length out)) (bytes_of (elements_of codes))
+pub record Writes (codes out : List ℕ) (r : Result ℕ Refusal) (after : List ℕ) : Type 0 where
+  pub answer : answer_number r ≡ write_answer codes (length out)
+  pub count : IfOk r (λ n. n ≡ written_after (write_answer codes (length out)) (bytes_of (elements_of codes)))
   pub output : after ≡ output_after (write_answer codes (length out)) (bytes_of (elements_of codes)) out
 
--- "An expression written as tokens reads back as itself": where the answer is 0, the bytes written read to these elements
-abbrev pub ReadsBack : List Element → Written → List ℕ → Type 0
-ReadsBack es r after = number_of r.answer ≡ 0 → read_tokens (take r.count after) ≡ elements es
+-- "An expression written as tokens reads back as itself": where the writer is done, the bytes written read to these elements
+abbrev pub ReadsBack : List Element → Result ℕ Refusal → List ℕ → Type 0
+ReadsBack es r after = IfOk r (λ n. read_tokens (take n after) ≡ elements es)

@@ -1,6 +1,5 @@
 use Rattle.api.proofs.Telling.{fresh-told}
-use borrow.Author.Rules.{rules}
 use Rattle.api.proofs.drive_fresh.Goals as goal
 
 pub returns : goal.returns
-returns c = search (fresh-told, rules)
+returns c = search fresh-told

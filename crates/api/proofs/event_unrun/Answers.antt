@@ -1,9 +1,8 @@
 use Rattle.api.proofs.Telling.{unrun-refused, unrun-placed}
-use borrow.Author.Rules.{rules}
 use Rattle.api.proofs.event_unrun.Goals as goal
 
-pub returns-then-own-ne0 : goal.returns-then-own-ne0
-returns-then-own-ne0 c = search (unrun-refused, rules)
+pub returns-in-Some : goal.returns-in-Some
+returns-in-Some c = search (unrun-refused, c.in-Some.ensures)
 
-pub returns : goal.returns
-returns c = search (unrun-placed, rules)
+pub returns-in-None : goal.returns-in-None
+returns-in-None c = search (unrun-placed, c.in-None.ensures)

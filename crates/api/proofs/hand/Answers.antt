@@ -1,9 +1,8 @@
 use Rattle.api.proofs.Telling.{hand-refused, hand-told}
-use borrow.Author.Rules.{rules}
 use Rattle.api.proofs.hand.Goals as goal
 
-pub returns-then-out-length : goal.returns-then-out-length
-returns-then-out-length c = search (hand-refused, rules)
+pub returns-then-out-codes : goal.returns-then-out-codes
+returns-then-out-codes c = search hand-refused
 
 pub returns : goal.returns
-returns c = search (hand-told, rules)
+returns c = search hand-told

@@ -1,12 +1,11 @@
-use Rattle.api.proofs.Telling.{anyway-malformed, not-anyway, anyway}
-use borrow.Author.Rules.{rules}
+use Rattle.api.proofs.Telling.{anyway, not-anyway, anyway-done}
 use Rattle.api.proofs.refused_anyway.Goals as goal
 
-pub returns-then-number-eq-MALFORMED : goal.returns-then-number-eq-MALFORMED
-returns-then-number-eq-MALFORMED c = search (anyway-malformed, rules)
+pub returns-in-Err : goal.returns-in-Err
+returns-in-Err c = search anyway
 
-pub returns-then-number-gt-PAST_END : goal.returns-then-number-gt-PAST_END
-returns-then-number-gt-PAST_END c = search (not-anyway, rules)
+pub returns-in_default : goal.returns-in_default
+returns-in_default c = search (not-anyway, anyway-done)
 
-pub returns : goal.returns
-returns c = search (anyway, rules)
+pub returns-in_default-2 : goal.returns-in_default-2
+returns-in_default-2 c = search (not-anyway, anyway-done)

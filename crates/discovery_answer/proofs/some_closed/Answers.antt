@@ -1,18 +1,16 @@
-use Rattle.discovery_answer.proofs.Writing.{look-begin, look-again, look-found, look-past, look-done}
+use lib.ListN.{take}
+use mathlib.Core.Path.{◌∙◌}
 use borrow.Author.Rules.{rules}
+use borrow.Author.Tests.{tests}
+use Rattle.std.proofs.lemmas.Iterator.{YieldsList-from_slice}
+use Rattle.std.proofs.lemmas.Iterator.Search.{any_from_yields_List}
+use Rattle.discovery_answer.specs.Write.{closed}
+use Rattle.discovery_answer.proofs.Writing.{first-closed}
 use Rattle.discovery_answer.proofs.some_closed.Goals as goal
 
-pub loop-i-init : goal.loop-i-init
-loop-i-init c = search look-begin
-
-pub returns-then-count-i : goal.returns-then-count-i
-returns-then-count-i c = search look-past
-
-pub returns-then-is_closed : goal.returns-then-is_closed
-returns-then-is_closed c = search (look-found, rules)
-
-pub loop-i-preserved : goal.loop-i-preserved
-loop-i-preserved c = search (look-again, rules)
-
 pub returns : goal.returns
-returns c = search (look-done, rules)
+returns c =
+    let n = c.min.result in
+    let rows = c.args.rows.now in
+    any_from_yields_List {all = take n rows} closed _ _ _ c.any.ensures.ran (YieldsList-from_slice (take n rows) cc) (λ x b q k. search (rules, tests))
+    ∙ first-closed rows c.args.count n (cc) (search rules)

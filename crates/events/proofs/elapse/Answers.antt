@@ -1,8 +1,9 @@
-use Rattle.events.proofs.Arms.{no-stops, elapse-refused, elapse-replies}
+use borrow.Author.Rules.{rules}
+use Rattle.events.proofs.Arms.{elapse-refused, elapse-done}
 use Rattle.events.proofs.elapse.Goals as goal
 
-pub returns-then-ticks-gt-MOST_TICKS : goal.returns-then-ticks-gt-MOST_TICKS
-returns-then-ticks-gt-MOST_TICKS c = record { replies = search elapse-refused; few = search no-stops }
+pub returns-then-ticks-gt-MOST_TICKS-clause-replies : goal.returns-then-ticks-gt-MOST_TICKS-clause-replies
+returns-then-ticks-gt-MOST_TICKS-clause-replies c = search (elapse-refused, rules)
 
-pub returns : goal.returns
-returns c = record { replies = search elapse-replies; few = c.elapse-elapsed.ensures.few }
+pub returns-clause-replies : goal.returns-clause-replies
+returns-clause-replies c = search (elapse-done, rules)

@@ -1,8 +1,14 @@
-use Rattle.events.proofs.Arms.{geometry-done, geometry-refused}
+use mathlib.Core.Path.{◌≡◌}
+use borrow.Author.Rules.{rules}
+use Rattle.std.specs.Prelude.{Err}
+use Rattle.events.proofs.Arms.{geometry-refused, geometry-done}
 use Rattle.events.proofs.set_geometry.Goals as goal
 
-pub returns-then-granted : goal.returns-then-granted
-returns-then-granted c = search geometry-done
+pub returns-in_err-place : goal.returns-in_err-place
+returns-in_err-place c =
+    let q : c.from_residual.result ≡ Err c.in_err-place.field-0.0 = search rules in
+    let p = c.in_err-place.ensures.places in
+    search (geometry-refused, p, q)
 
 pub returns : goal.returns
-returns c = search geometry-refused
+returns c = let p = c.in_ok-place.ensures.places in search (geometry-done, p)

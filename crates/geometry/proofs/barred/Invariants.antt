@@ -1,9 +1,6 @@
-use Prim.Native.Nat.{◌-◌}
-use Rattle.geometry.proofs.Scans.{ClearTo}
+use Rattle.std.proofs.Common.{◌≡◌, ℕ, ◌<◌, false}
+use Rattle.geometry.specs.Parts.{bars_at}
 use Rattle.geometry.proofs.barred.Given as goal
 
 abbrev pub invariant-loop-i : goal.invariant-loop-i
-invariant-loop-i l = ClearTo l.bands l.spans l.closed l.range l.i
-
-abbrev pub decreases-loop-i : goal.decreases-loop-i
-decreases-loop-i l = 16 - l.i
+invariant-loop-i l = (k : ℕ) → k < l.i → bars_at l.spans l.closed l.range k ≡ false

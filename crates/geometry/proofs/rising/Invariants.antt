@@ -1,8 +1,9 @@
+use lib.ListN.{length}
 use Rattle.geometry.proofs.Ordered.{Rises}
 use Rattle.geometry.proofs.rising.Given as goal
 
-abbrev pub invariant-loop-i : goal.invariant-loop-i
-invariant-loop-i l = Rises l.bands l.spans l.low l.i
+abbrev pub invariant-loop-span : goal.invariant-loop-span
+invariant-loop-span l = Rises l.fn.spans l.low l.rest
 
-abbrev pub decreases-loop-i : goal.decreases-loop-i
-decreases-loop-i l = l.i
+abbrev pub decreases-loop-span : goal.decreases-loop-span
+decreases-loop-span l = length l.rest

@@ -1,10 +1,10 @@
-use Prim.Native.Nat.{◌-◌}
-use Rattle.geometry.specs.Blocks.{meets_any, overlapping, band_spans}
-use Rattle.geometry.proofs.Scans.{Tested}
+use lib.ListN.{length}
+use Rattle.std.proofs.Common.{◌≡◌}
+use Rattle.geometry.specs.Blocks.{overlapping}
 use Rattle.geometry.proofs.some_meet.Given as goal
 
-abbrev pub invariant-loop-i : goal.invariant-loop-i
-invariant-loop-i l = Tested overlapping meets_any l.spans l.bands l.i (overlapping (band_spans l.bands l.spans))
+abbrev pub invariant-loop-span : goal.invariant-loop-span
+invariant-loop-span l = overlapping l.rest ≡ overlapping l.fn.spans
 
-abbrev pub decreases-loop-i : goal.decreases-loop-i
-decreases-loop-i l = 16 - l.i
+abbrev pub decreases-loop-span : goal.decreases-loop-span
+decreases-loop-span l = length l.rest

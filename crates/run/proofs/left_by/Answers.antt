@@ -1,6 +1,11 @@
-use Rattle.run.proofs.Leaving.{left-by-run}
-use borrow.Author.Rules.{rules}
+use Rattle.run.proofs.Leaving.{left_ok, left_bad}
 use Rattle.run.proofs.left_by.Goals as goal
 
-pub returns : goal.returns
-returns c = record { result_value = search (left-by-run, rules); reached = search rules }
+pub returns-in-Ok-clause-result_value : goal.returns-in-Ok-clause-result_value
+returns-in-Ok-clause-result_value c =
+    left_ok c.args.script.now c.args.answers.now c.args.stops.now c.requires.0 c.requires.1 c.run-ran.result _ _ _ c.in-Ok.is c.run-ran.ensures.stops_after
+
+pub returns-in-Err-clause-result_value : goal.returns-in-Err-clause-result_value
+returns-in-Err-clause-result_value c =
+    left_bad c.args.script.now c.args.answers.now c.args.stops.now c.requires.0 c.requires.1 c.run-ran.result c.in-Err.error (record { place = c.place.result }) _ _ c.in-Err.is
+    c.run-ran.ensures.stops_after c.place.ensures

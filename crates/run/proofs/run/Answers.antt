@@ -1,10 +1,10 @@
-use Rattle.run.proofs.Whole.{bad-script, script-run}
-use Rattle.run.proofs.Holding.{bad-holds, run_holds}
-use Rattle.run.proofs.Reaching.{bad-reached, all-reached}
+use Rattle.std.specs.Prelude.{Ok}
+use Rattle.run.specs.Parts.{refused_in}
+use Rattle.run.proofs.Reaching.{all_reached}
 use Rattle.run.proofs.run.Goals as goal
 
-pub returns-in-Reads : goal.returns-in-Reads
-returns-in-Reads c = record { stops_after = search script-run; condition = search run_holds; reached = search all-reached }
+pub returns-in-Ok-clause-reached : goal.returns-in-Ok-clause-reached
+returns-in-Ok-clause-reached c = all_reached _ _ _ _ (record { events = Ok c.in-Ok.count; drive = c.in-Ok.drive }) _ _ c.in-Ok.ensures c.type_inv.script
 
-pub returns-in-BadAt : goal.returns-in-BadAt
-returns-in-BadAt c = record { stops_after = search bad-script; condition = search bad-holds; reached = search bad-reached }
+pub returns-in-Err-clause-reached : goal.returns-in-Err-clause-reached
+returns-in-Err-clause-reached c = rw c.refused.ensures (all_reached _ _ _ _ (refused_in c.in-Err.error) _ _ c.in-Err.ensures c.type_inv.script)

@@ -1,12 +1,10 @@
-use Prim.Native.Nat.{◌-◌}
 use lib.ListN.{length}
+use Prim.Native.Nat.{◌-◌}
 use Rattle.script_reader.proofs.Flattening.{Flattening}
 use Rattle.script_reader.proofs.flatten.Given as goal
 
-abbrev pub invariant-loop-at : goal.invariant-loop-at
-invariant-loop-at l =
-    Flattening l.script l.start l.initial.fields l.initial.tokens l.fields l.tokens l.at l.field_count l.token_count
+abbrev pub invariant-loop-reader : goal.invariant-loop-reader
+invariant-loop-reader l = Flattening l.initial.reader l.reader l.initial.fields l.initial.tokens l.fields l.tokens l.length
 
-abbrev pub decreases-loop-at : goal.decreases-loop-at
-decreases-loop-at l =
-    length l.script - l.at
+abbrev pub decreases-loop-reader : goal.decreases-loop-reader
+decreases-loop-reader l = length l.reader.script.now - l.reader.at

@@ -1,28 +1,26 @@
-use native.Mathlib.Nat.{le_trans}
-use lib.Dec.{lit≤}
 use borrow.Author.Rules.{rules}
-use Rattle.script_reader.proofs.Whole.{bad-told, refused-again, script-overlong, script-headless, script-broken, fields-short, tokens-short, granted, all_told, told-again}
+use Rattle.std.specs.Prelude.{Ok}
+use Rattle.script_reader.proofs.Whole.{bad-told, error-told, script-overlong, script-headless, script-broken, slices-short, done-told, told-again}
 use Rattle.script_reader.proofs.read.Goals as goal
 
-pub returns-then-script-gt-MOST_BYTES : goal.returns-then-script-gt-MOST_BYTES
-returns-then-script-gt-MOST_BYTES c = record { tokens_after = search (bad-told, script-overlong, le_trans, lit≤); again = search (refused-again, rules) }
+pub returns-then-script-gt-MOST_BYTES-clause-tokens_after : goal.returns-then-script-gt-MOST_BYTES-clause-tokens_after
+returns-then-script-gt-MOST_BYTES-clause-tokens_after c = bad-told _ _ _ 0 (script-overlong _ (search rules))
 
-pub returns-in_default : goal.returns-in_default
-returns-in_default c = record { tokens_after = search (bad-told, script-headless); again = search (refused-again, rules) }
+pub returns-in_err-header-clause-tokens_after : goal.returns-in_err-header-clause-tokens_after
+returns-in_err-header-clause-tokens_after c = error-told _ _ _ _ 0 (search rules) (script-headless _ (search rules) _ c.header.new.reader c.new-reader.ensures _ c.header.ensures.header (search rules))
 
-pub returns-then-fields-field_count : goal.returns-then-fields-field_count
-returns-then-fields-field_count c = record { tokens_after = search fields-short; again = search (refused-again, rules) }
+pub returns-in_err-length-clause-tokens_after : goal.returns-in_err-length-clause-tokens_after
+returns-in_err-length-clause-tokens_after c =
+    error-told _ _ _ _ c.in_err-length.field-0.0.place (search rules) (script-broken _ (search rules) _ c.header.new.reader c.new-reader.ensures _ c.header.ensures.header c.in_ok-header.header (search rules) c.header.ensures.script _ c.measure.ensures c.in_err-length.field-0.0 (search rules))
 
-pub returns-then-tokens-token_count : goal.returns-then-tokens-token_count
-returns-then-tokens-token_count c = record { tokens_after = search tokens-short; again = search (refused-again, rules) }
+pub returns-then-not-fits-clause-tokens_after : goal.returns-then-not-fits-clause-tokens_after
+returns-then-not-fits-clause-tokens_after c = slices-short _ (search rules) _ c.header.new.reader c.new-reader.ensures _ c.header.ensures.header c.in_ok-header.header (search rules) c.header.ensures.script _ c.measure.ensures c.in_ok-length.length (search rules) _ _ _ c.fits.ensures (search rules)
 
-pub returns-else-tokens-token_count : goal.returns-else-tokens-token_count
-returns-else-tokens-token_count c =
-    let new = c.flatten.new in
-    let told =
-    all_told _ c.if-script-gt-MOST_BYTES.false _ c.header_at.ensures _ _ _ _ c.in-Is.is _ c.measure.ensures _ _ c.in-Is-measure.is
-    c.args.fields.now c.args.tokens.now new.fields new.tokens c.flatten.result c.flatten.ensures c.if-fields-field_count.false c.if-tokens-token_count.false in
-    record { tokens_after = told; again = told-again _ (granted _ _ _ _ _) c.args.fields.now c.args.tokens.now new.fields new.tokens (search rules) told }
+pub returns-clause-tokens_after : goal.returns-clause-tokens_after
+returns-clause-tokens_after c = done-told _ (search rules) _ c.header.new.reader c.new-reader.ensures _ c.header.ensures.header c.in_ok-header.header (search rules) c.header.ensures.script _ c.measure.ensures c.in_ok-length.length (search rules) _ _ _ _ _ c.flatten.ensures _ c.fits.ensures (search rules) c.in_ok-flatten.field-0 (search rules)
 
-pub returns-in-BadAt : goal.returns-in-BadAt
-returns-in-BadAt c = record { tokens_after = search (bad-told, script-broken); again = search (refused-again, rules) }
+pub returns-clause-again : goal.returns-clause-again
+returns-clause-again c =
+    told-again _ (Ok (record { header = c.in_ok-header.header; fields = c.in_ok-length.length.fields; tokens = c.in_ok-length.length.tokens })) c.args.fields.now c.args.tokens.now
+    c.flatten.new.fields c.flatten.new.tokens (search rules)
+    (done-told _ (search rules) _ c.header.new.reader c.new-reader.ensures _ c.header.ensures.header c.in_ok-header.header (search rules) c.header.ensures.script _ c.measure.ensures c.in_ok-length.length (search rules) _ _ _ _ _ c.flatten.ensures _ c.fits.ensures (search rules) c.in_ok-flatten.field-0 (search rules))

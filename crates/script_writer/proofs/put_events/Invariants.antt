@@ -1,10 +1,9 @@
-use Prim.Native.Nat.{◌-◌}
 use lib.ListN.{length}
 use Rattle.script_writer.proofs.Writing.{Writing}
 use Rattle.script_writer.proofs.put_events.Given as goal
 
-abbrev pub invariant-loop-i : goal.invariant-loop-i
-invariant-loop-i l = Writing l.fields l.tokens l.initial.bytes l.start l.bytes l.at l.i l.used
+abbrev pub invariant-loop-fields : goal.invariant-loop-fields
+invariant-loop-fields l = Writing l.initial.fields l.initial.tokens l.initial.bytes l.start l.bytes l.at l.fields l.tokens
 
-abbrev pub decreases-loop-i : goal.decreases-loop-i
-decreases-loop-i l = length l.fields - l.i
+abbrev pub decreases-loop-fields : goal.decreases-loop-fields
+decreases-loop-fields l = length l.fields

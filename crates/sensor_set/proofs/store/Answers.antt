@@ -1,4 +1,3 @@
-use Rattle.sensor_set.specs.Columns.{stored_of}
 use Rattle.sensor_set.proofs.Fits.{fitting, on-fraction, off-fraction}
 use Rattle.sensor_set.proofs.store.Goals as goal
 
@@ -19,7 +18,3 @@ column-requires-5 c = off-fraction _ c.requires
 
 pub column-requires-6 : goal.column-requires-6
 column-requires-6 c = (fitting _ c.requires).off_timeout
-
-pub returns : goal.returns
-unfolding stored_of
-returns c = simp (c.column-6.ensures, c.column-5.ensures, c.column-4.ensures, c.column-3.ensures, c.column-2.ensures, c.column.ensures)

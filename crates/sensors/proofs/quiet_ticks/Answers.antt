@@ -1,14 +1,15 @@
 use borrow.Author.Rules.{rules}
+use borrow.Author.Tests.{tests}
+use mathlib.Core.Path.{◌∙◌}
+use Rattle.std.proofs.lemmas.Iterator.{YieldsList-from_slice}
+use Rattle.std.proofs.lemmas.Iterator.Consumers.{fold_from_yields_List}
+use Rattle.sensor.specs.Parts.{quiet_of}
 use Rattle.sensors.specs.Parts.{quiet_ticks}
-use Rattle.base.proofs.Loops.{fold-begin, fold-again, fold_done}
+use Rattle.sensors.proofs.Quiet.{fold-is}
 use Rattle.sensors.proofs.quiet_ticks.Goals as goal
-
-pub loop-i-init : goal.loop-i-init
-loop-i-init c = search (fold-begin, rules)
-
-pub loop-i-preserved : goal.loop-i-preserved
-loop-i-preserved c = search fold-again
 
 pub returns : goal.returns
 unfolding quiet_ticks
-returns c = search fold_done
+returns c =
+    fold_from_yields_List _ quiet_of c.args.most c.fold.result c.fold.ensures.ran (YieldsList-from_slice c.args.sensors.now cc) (λ a x b q k. search (rules, tests))
+    ∙ fold-is quiet_of c.args.most c.args.sensors.now

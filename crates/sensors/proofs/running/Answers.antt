@@ -1,17 +1,14 @@
 use borrow.Author.Rules.{rules}
-use Rattle.base.proofs.Lists.{one_if-le}
-use native.Mathlib.Omega.{arith}
-use Rattle.base.proofs.Loops.{count-begin, count-again, count-done}
+use borrow.Author.Tests.{tests}
+use mathlib.Core.Path.{◌∙◌}
+use Rattle.std.proofs.lemmas.Iterator.{YieldsList-from_slice}
+use Rattle.std.proofs.lemmas.Iterator.Consumers.{YieldsList-at, YieldsList-from_filter, count_from_yields_List}
+use Rattle.sensor.specs.Single.{runs}
+use Rattle.sensors.proofs.Quiet.{count-is}
 use Rattle.sensors.proofs.running.Goals as goal
 
-pub loop-i-init : goal.loop-i-init
-loop-i-init c = search (count-begin, rules)
-
-pub overflow_add-n : goal.overflow_add-n
-overflow_add-n c = omega (arith, c.one_if-n.ensures, one_if-le c.runs.result)
-
-pub loop-i-preserved : goal.loop-i-preserved
-loop-i-preserved c = search count-again
-
 pub returns : goal.returns
-returns c = search count-done
+returns c =
+    count_from_yields_List c.filter.result _ c.count.ensures.ran
+    (YieldsList-from_filter _ runs (YieldsList-at c.filter.ensures.source (YieldsList-from_slice c.args.sensors.now cc)) c.filter.ensures.closure (λ x b q k. search (rules, tests)))
+    ∙ count-is runs c.args.sensors.now

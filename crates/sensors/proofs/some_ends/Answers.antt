@@ -1,15 +1,12 @@
 use borrow.Author.Rules.{rules}
-use Rattle.base.proofs.Loops.{seek-begin, seek-again, seek_found, seek-done}
+use borrow.Author.Tests.{tests}
+use mathlib.Core.Path.{◌∙◌}
+use Rattle.std.proofs.lemmas.Iterator.{YieldsList-from_slice}
+use Rattle.std.proofs.lemmas.Iterator.Search.{any_from_yields_List}
+use Rattle.sensor.specs.Single.{ends_next}
+use Rattle.sensors.proofs.Quiet.{any-is}
 use Rattle.sensors.proofs.some_ends.Goals as goal
 
-pub loop-i-init : goal.loop-i-init
-loop-i-init c = search (seek-begin, rules)
-
-pub returns-then-ends_next : goal.returns-then-ends_next
-returns-then-ends_next c = search seek_found
-
-pub loop-i-preserved : goal.loop-i-preserved
-loop-i-preserved c = search seek-again
-
 pub returns : goal.returns
-returns c = search seek-done
+returns c =
+    any_from_yields_List ends_next _ _ _ c.any.ensures.ran (YieldsList-from_slice c.args.sensors.now cc) (λ x b q k. search (rules, tests)) ∙ any-is ends_next c.args.sensors.now

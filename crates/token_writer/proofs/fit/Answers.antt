@@ -1,15 +1,13 @@
 use borrow.Author.Rules.{rules}
-use Rattle.token_writer.proofs.Passes.{fit-begin, fit-again, fit-broken, fit-done}
+use borrow.Author.Tests.{tests}
+use mathlib.Core.Path.{◌∙◌}
+use lib.Dec.{leb}
+use Rattle.std.proofs.lemmas.Iterator.{YieldsList-from_slice}
+use Rattle.std.proofs.lemmas.Iterator.Search.{all_from_yields_List}
+use Rattle.token_writer.proofs.Passes.{all_fit}
 use Rattle.token_writer.proofs.fit.Goals as goal
 
-pub loop-i-init : goal.loop-i-init
-loop-i-init c = search fit-begin
-
-pub returns-then-codes-i : goal.returns-then-codes-i
-returns-then-codes-i c = search (fit-broken, rules)
-
-pub loop-i-preserved : goal.loop-i-preserved
-loop-i-preserved c = search (fit-again, rules)
-
 pub returns : goal.returns
-returns c = search (fit-done, rules)
+returns c =
+    all_from_yields_List (λ n. leb n 4294967298) _ _ _ c.all.ensures.ran (YieldsList-from_slice c.args.codes.now cc) (λ x b q k. search (rules, tests))
+    ∙ all_fit c.args.codes.now

@@ -1,10 +1,5 @@
 use Rattle.token_writer.proofs.Passes.{Sizing}
-use lib.ListN.{length}
-use Prim.Native.Nat.{◌-◌}
 use Rattle.token_writer.proofs.needed.Given as goal
 
-abbrev pub invariant-loop-i : goal.invariant-loop-i
-invariant-loop-i l = Sizing l.codes l.total l.i
-
-abbrev pub decreases-loop-i : goal.decreases-loop-i
-decreases-loop-i l = length l.codes - l.i
+abbrev pub invariant-loop-code : goal.invariant-loop-code
+invariant-loop-code l = Sizing l.codes l.total l.code-index

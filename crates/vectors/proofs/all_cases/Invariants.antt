@@ -1,12 +1,12 @@
-use mathlib.Core.Path.{◌≡◌}
-use lib.ListN.{length}
-use Prim.Native.Nat.{◌≤◌, ◌-◌}
+use Rattle.std.proofs.Common.{◌≡◌, ◌≤◌}
 use Rattle.vectors.proofs.all_cases.Given as goal
 
+-- no more of a kind than cases that were read, of which each took a byte at least
 abbrev pub invariant-loop-number : goal.invariant-loop-number
 invariant-loop-number g l =
-    (l.number ≤ l.count) × (l.same ≤ l.number) × (l.bad ≤ l.number) × (l.other ≤ l.number) × (length l.fields ≡ length l.initial.fields) × (length l.tokens ≡ length l.initial.tokens) × (length l.out ≡ length l.initial.out)
-
-abbrev pub decreases-loop-number : goal.decreases-loop-number
-decreases-loop-number g l =
-    l.count - l.number
+    (goal.iterator-loop-number g).can_next l.number-iterator
+    × (goal.iterator-loop-number g).is_finite l.number-iterator
+    × (l.number-iterator.input.now ≡ l.input)
+    × (l.tally.same ≤ l.number-iterator.number)
+    × (l.tally.bad ≤ l.number-iterator.number)
+    × (l.tally.other ≤ l.number-iterator.number)

@@ -1,9 +1,6 @@
-use Prim.Native.Nat.{◌-◌}
-use Rattle.drive.proofs.Settling.{Settled}
+use Rattle.base.proofs.Loops.{Mapped}
+use Rattle.band.specs.Rows.{settle_row}
 use Rattle.drive.proofs.Drive.settle.Given as goal
 
-abbrev pub invariant-loop-i : goal.invariant-loop-i
-invariant-loop-i l = Settled l.initial.self l.conditions l.self l.i
-
-abbrev pub decreases-loop-i : goal.decreases-loop-i
-decreases-loop-i l = 16 - l.i
+abbrev pub invariant-loop-row : goal.invariant-loop-row
+invariant-loop-row l = Mapped (settle_row l.conditions) 16 l.initial.row-items l.row-items l.row-index

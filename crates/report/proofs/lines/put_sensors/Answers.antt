@@ -1,16 +1,18 @@
-use Rattle.report.proofs.Putting.{lines-begin, lines-room, lines-again, lines-done}
-use Rattle.report.proofs.Rows.{sensor-there}
-use borrow.Author.Rules.{rules}
+use Prim.Native.Nat.{◌<◌}
+use native.Mathlib.Omega.{arith}
+use Rattle.report.proofs.Putting.{lines_begin, lines_room, lines_again}
+use Rattle.report.proofs.Rows.{below, sensor_there}
 use Rattle.report.proofs.lines.put_sensors.Goals as goal
 
-pub loop-i-init : goal.loop-i-init
-loop-i-init c = search lines-begin
+pub loop-number-init : goal.loop-number-init
+loop-number-init c = search lines_begin
 
 pub put_sensor-at-requires : goal.put_sensor-at-requires
-put_sensor-at-requires c = search (lines-room, sensor-there, rules)
+put_sensor-at-requires c =
+    let h : c.loop-number.number < c.args.count = below _ c.args.sensors.now _ (omega arith) c.loop-number-test.true in
+    lines_room _ _ _ _ _ _ c.requires.0 c.loop-number.invariant h _ (sensor_there _ _ h c.args.sensors.now _ (omega arith))
 
-pub loop-i-preserved : goal.loop-i-preserved
-loop-i-preserved c = search (lines-again, sensor-there, rules)
-
-pub returns : goal.returns
-returns c = search (lines-done, rules)
+pub loop-number-preserved : goal.loop-number-preserved
+loop-number-preserved c =
+    let h : c.loop-number.number < c.args.count = below _ c.args.sensors.now _ (omega arith) c.loop-number-test.true in
+    lines_again _ _ _ _ _ _ c.requires.0 c.loop-number.invariant h _ _ _ (sensor_there _ _ h c.args.sensors.now _ (omega arith)) c.put_sensor-at.ensures
