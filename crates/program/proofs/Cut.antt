@@ -19,8 +19,8 @@ use Rattle.drive.specs.State.{fresh_drive}
 use Rattle.drive.specs.Events.{run_of}
 use Rattle.discovery_answer.specs.Write.{discovery_of, discovery_bytes}
 use Rattle.discovery_answer.proofs.Writing.{discovery-length}
-use Rattle.script.specs.declared.BadScript.{BadScript}
 use Rattle.script.specs.Whole.{Script, accepted, bad, read_script, most_script_bytes}
+use Rattle.run.specs.declared.Unrun.{Unrun}
 use Rattle.run.specs.Left.{left_in, left_by}
 use Rattle.report.specs.Listing.{listing, most_listed}
 use Rattle.report.proofs.Short.{never-short}
@@ -62,11 +62,11 @@ lists bytes lent out r n h e k =
     (ap (λ (m : ℕ). take m out) k ∙ page-by (listing (read_script bytes)) lent r out (omega (arith, h, never-short bytes)) e)
 
 -- the discovery answer, on a page that it fits, and of a bad script none
-module _ (bytes : List ℕ) (r : Result Drive BadScript) (left : left_in r ≡ left_by (read_script bytes)) where
-  pub tells_none : (b : BadScript) (page : List ℕ) → r ≡ Err b → Tells discovery_after bytes (take 0 page)
-  tells_none b page q = tells discovery_after bytes [] (go (read_script bytes) (ap left_in (sym q) ∙ left))
+module _ (bytes : List ℕ) (r : Result Drive Unrun) (left : left_in r ≡ left_by (read_script bytes)) where
+  pub tells_none : (u : Unrun) (page : List ℕ) → r ≡ Err u → Tells discovery_after bytes (take 0 page)
+  tells_none u page q = tells discovery_after bytes [] (go (read_script bytes) (ap left_in (sym q) ∙ left))
     where
-      go : (o : Script) → left_in (Err b) ≡ left_by o → [] ≡ discovery_after o
+      go : (o : Script) → left_in (Err u) ≡ left_by o → [] ≡ discovery_after o
       go (accepted capacity bands sensors es) q = let n : ◌≡◌ {A = ℕ} 10 0 = cc in absurd (omega (arith, n))
       go (bad at) q = refl
 

@@ -5,6 +5,7 @@ use Rattle.drive.specs.State.{fresh_drive}
 use Rattle.drive.specs.Events.{run_of}
 use Rattle.discovery_answer.specs.Write.{discovery_of}
 use Rattle.script.specs.Whole.{most_script_bytes, Script, accepted, bad, read_script}
+use Rattle.program.specs.declared.BytesRead.{BytesRead}
 use Rattle.program.specs.declared.Ended.{Ended}
 use Rattle.program.specs.declared.Unread.{Unread}
 
@@ -16,6 +17,11 @@ is_failure got = is_err got
 abbrev pub moved : {E : Type 0} → Result ℕ E → ℕ → ℕ
 moved (Ok n) most = min n most
 moved (Err e) most = 0
+
+-- how many bytes were read, or the read that failed
+abbrev pub length_in : Result BytesRead Unread → Result ℕ Unread
+length_in (Ok input) = Ok input.length
+length_in (Err unread) = Err unread
 
 -- one byte more than a script may have: at most so many bytes of an input are read
 abbrev pub most_read : ℕ

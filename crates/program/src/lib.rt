@@ -2,10 +2,10 @@
 //! can say which bytes the outside hands over or takes, so what is decided of them stands in functions of its own, which are equations.
 #![tactic(auto)]
 
-ghost use Rattle.std.specs.Prelude.{◌≡◌, ◌≤◌, false, length, take, IfOk, IfErr};
+ghost use Rattle.std.specs.Prelude.{◌≡◌, ◌≤◌, false, eqb, length, take, IfOk, IfErr};
 ghost use Rattle.discovery_answer.specs.Write.{discovery_bytes};
 ghost use Rattle.report.specs.Listing.{listing, most_listed};
-ghost use Rattle.program.specs.Input.{most_read, is_failure, moved, discovery_after, AreFirst, Tells, Prints, EndsSo};
+ghost use Rattle.program.specs.Input.{most_read, is_failure, moved, length_in, discovery_after, AreFirst, Tells, Prints, EndsSo};
 
 use std::io;
 use std::io::Read;
@@ -27,7 +27,7 @@ pub struct Unread {
 }
 
 // What was read, and whether a read moved no byte.
-// stays: (1) only by the flag the contract of `read_all` says that it never stops before (one_read_only)
+// stays: (1) only by the flag the contract of `read_all` says that it never stops before (one_read_only, first_short_read_ends)
 #[derive(Clone, Copy)]
 struct BytesRead {
     length: usize,
@@ -43,12 +43,17 @@ fn outcome(got: io::Result<usize>, space: &[u8]) -> io::Result<usize>
     got.map(|count| count.min(space.len()))
 }
 
-// Reads once.
-fn read_some<R: Read>(reader: &mut R, space: &mut [u8]) -> io::Result<usize>
-    ensures { IfOk result (λ n. n ≤ length space.new) }
+// Reads once. The input has ended exactly where the read moves no byte.
+fn read_some<R: Read>(reader: &mut R, space: &mut [u8]) -> io::Result<BytesRead>
+    ensures length_in_bounds { IfOk result (λ input. input.length ≤ length space.new) }
+    ensures ended_value { IfOk result (λ input. input.ended ≡ eqb input.length 0) }
 {
     let got = reader.read(space);
-    outcome(got, space)
+    let length = outcome(got, space)?;
+    Ok(BytesRead {
+        length,
+        ended: length == 0,
+    })
 }
 
 // Reads until a read moves no byte or the space is full, and never stops before.
@@ -59,16 +64,16 @@ fn read_all<R: Read>(reader: &mut R, space: &mut [u8]) -> Result<BytesRead, Unre
 {
     let mut at = 0;
     while at < space.len() {
-        let Ok(count) = read_some(reader, &mut space[at..]) else {
+        let Ok(input) = read_some(reader, &mut space[at..]) else {
             return Err(Unread { read: at });
         };
-        if count == 0 {
+        if input.ended {
             return Ok(BytesRead {
                 length: at,
-                ended: true,
+                ..input
             });
         }
-        at += count;
+        at += input.length;
     }
     Ok(BytesRead {
         length: at,
@@ -76,7 +81,17 @@ fn read_all<R: Read>(reader: &mut R, space: &mut [u8]) -> Result<BytesRead, Unre
     })
 }
 
-// Reads the input, and complains on standard error where it cannot be read. Where that fails too, nobody is left to be told.
+// How many bytes were read, or that a read failed, of which it complains on standard error. Where that fails too, nobody is left to be told.
+fn told(rt: &impl Eprint, read: Result<BytesRead, Unread>, program: &str) -> Result<usize, Unread>
+    ensures { result ≡ length_in read }
+{
+    if read.is_err() {
+        let _ = eprintln!(rt; "{program}: standard input cannot be read");
+    }
+    Ok(read?.length)
+}
+
+// Reads the input, and complains where it cannot be read.
 fn read_input<R: Read>(
     rt: &impl Eprint,
     reader: &mut R,
@@ -87,10 +102,7 @@ fn read_input<R: Read>(
     ensures unread { IfErr result (λ unread. AreFirst unread.read space.new) }
 {
     let read = read_all(reader, space);
-    if read.is_err() {
-        let _ = eprintln!(rt; "{program}: standard input cannot be read");
-    }
-    Ok(read?.length)
+    told(rt, read, program)
 }
 
 // Hands a text to standard output, complains where that fails, and answers how many bytes were handed over.
