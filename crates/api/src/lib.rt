@@ -45,7 +45,8 @@ ghost use Rattle.api.specs.Parts.{anyway_in};
 use answer::Refusal;
 use drive::{Drive, Event, Header};
 use event_form::EventKind;
-use script::{BadScript, ScriptError};
+use run::Unrun;
+use script::ScriptError;
 
 /// Tells how many were written, or why none were.
 fn tell(done: Result<usize, Refusal>, count: &mut usize) -> u8
@@ -198,7 +199,7 @@ fn refused_anyway(event: Event<'_>) -> Option<Refusal>
 }
 
 /// One event where the script is bad: the event's own number, or that of the script and the place.
-fn event_unrun(event: Event<'_>, bad: BadScript, place: &mut usize) -> u8
+fn event_unrun(event: Event<'_>, bad: Unrun, place: &mut usize) -> u8
     ensures { (stops : ℕ) → answered result stops place.new ≡ refused_event bad_script bad.place (event_in event.entry) stops place.old }
 {
     match refused_anyway(event) {

@@ -7,13 +7,25 @@ use native.Mathlib.Omega.{arith}
 use mathlib.Core.List.{List}
 use lib.ListN.{length}
 use borrow.Author.Tests.{leb-true}
-use Rattle.cases.specs.Cases.{size_at, whole_at, next_at, case_place, count_from, case_count, left_over, Placed}
+use Rattle.cases.specs.Cases.{size_at, whole_at, next_at, case_place, between, case_of, count_from, case_count, left_over, Placed}
 
 -- the place of the next case is the place after this one
 place-next : (s : List ℕ) (n at : ℕ) → case_place s (suc n) at ≡ next_at s (case_place s n at)
 unfolding case_place
 place-next s zero at = refl
 place-next s (suc n) at = place-next s n (next_at s at)
+
+-- the way from case to case, by the places that the code has
+pub first_place : (s : List ℕ) → 0 ≡ case_place s 0 0
+unfolding case_place
+first_place s = refl
+
+pub next_place : (s : List ℕ) (n at next : ℕ) → at ≡ case_place s n 0 → next ≡ next_at s at → next ≡ case_place s (n + 1) 0
+next_place s n at next p q = let b : suc n ≡ n + 1 = omega arith in q ∙ ap (next_at s) p ∙ sym (place-next s n 0) ∙ ap (λ (k : ℕ). case_place s k 0) b
+
+-- and the bytes of the case that it ends at
+pub case_between : (s : List ℕ) (number at next : ℕ) → at ≡ case_place s number 0 → next ≡ next_at s at → between s at next ≡ case_of s number
+case_between s number at next p q = ap (between s at) q ∙ ap (λ (x : ℕ). between s x (next_at s x)) p
 
 -- where a case is whole, one more than follow it
 one_more : (s : List ℕ) (most at : ℕ) → 0 < most → whole_at s at ≡ true → count_from s most at ≡ suc (count_from s (most - 1) (next_at s at))

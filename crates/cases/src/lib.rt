@@ -2,7 +2,7 @@
 #![tactic(auto)]
 
 ghost use Rattle.std.specs.Prelude.{◌≡◌, ◌↔◌, false, ◌+◌, ◌≤◌, IsTrue, All, length, take, drop};
-ghost use Rattle.cases.specs.Cases.{size_at, whole_at, case_place, case_count, left_over, Placed};
+ghost use Rattle.cases.specs.Cases.{size_at, whole_at, next_at, case_place, case_of, case_count, left_over, Placed};
 
 use std::io::Read;
 
@@ -77,6 +77,30 @@ impl<'a> Iterator for Cases<'a> {
         };
         Some((number, &input[from..next]))
     }
+}
+
+// The place after the case at a place: the input's end where none is whole.
+fn next_at(input: &[u8], at: usize) -> usize
+    requires { at ≤ length input.now }
+    ensures { (result ≡ next_at input.now at) × (result ≤ length input.now) }
+{
+    if whole_at(input, at) {
+        at + 4 + size_at(input, at)
+    } else {
+        input.len()
+    }
+}
+
+/// The bytes of a case, counted from 0, as a part of the input itself: what is there of it where it is not whole, and none after that.
+#[tactic(auto, using(crate::proofs::Counting::first_place, crate::proofs::Counting::next_place, crate::proofs::Counting::case_between))]
+pub fn case_of(input: &[u8], number: usize) -> &[u8]
+    ensures { result.now ≡ case_of input.now number }
+{
+    let mut at = 0;
+    for _ in 0..number {
+        at = next_at(input, at);
+    }
+    input.get(at + 4..next_at(input, at)).unwrap_or(&[])
 }
 
 /// What an input holds: how many whole cases, and how many bytes are left over after them.

@@ -1,5 +1,5 @@
 -- The numbers of one event: how many by its kind, and which.
-use mathlib.Core.Path.{◌≡◌, refl, sym, ◌∙◌}
+use mathlib.Core.Path.{◌≡◌, refl, sym, subst, ◌∙◌}
 use Prim.Native.Nat.{ℕ, zero, suc, ◌-◌, ◌≤◌}
 use native.Mathlib.Omega.{arith}
 use mathlib.Core.Bool.{false}
@@ -11,9 +11,9 @@ use borrow.Author.Tests.{eq-eqb, ne_eqb}
 use Rattle.base.proofs.Cases.{cond-true, cond-false}
 use Rattle.drive.specs.Events.{Event, reading, elapse, reset, sensor_set, band_set, geometry, transfer}
 use Rattle.event_form.specs.declared.EventNumbers.{EventNumbers}
-use Rattle.event_form.specs.Form.{fields_of}
+use Rattle.event_form.specs.Form.{fields_of, tokens_of, with_tokens}
 use Rattle.event_form.specs.Kinds.{is_kind}
-use Rattle.event_form.specs.Parts.{width_of, count_of, Numbers}
+use Rattle.event_form.specs.Parts.{width_of, count_of, Numbers, NumbersWith}
 
 -- no event has a number of kind that is none of the seven
 pub no-kind : (n : ℕ) → is_kind n ≡ false → width_of n ≡ 0
@@ -45,6 +45,19 @@ fields-most (sensor_set sensor c) = omega arith
 fields-most (band_set band c tokens) = omega arith
 fields-most (geometry band start blocks) = omega arith
 fields-most (transfer direction start count) = omega arith
+
+-- an event with its own bytes is itself
+own-tokens : (e : Event) → with_tokens (tokens_of e) e ≡ e
+own-tokens (reading sensor value) = refl
+own-tokens (elapse n) = refl
+own-tokens (reset type) = refl
+own-tokens (sensor_set sensor c) = refl
+own-tokens (band_set band c tokens) = refl
+own-tokens (geometry band start blocks) = refl
+own-tokens (transfer direction start count) = refl
+
+pub own_numbers : (e : Event) (count : ℕ) (r : EventNumbers) → NumbersWith e count r → length (tokens_of e) ≡ count → Numbers e r
+own_numbers e count r n l = subst (λ (x : Event). Numbers x r) (own-tokens e) (n (tokens_of e) l)
 
 module _ (e : Event) (r : EventNumbers) (n : Numbers e r) where
   pub numbers-first : take r.width r.numbers ≡ fields_of e

@@ -99,6 +99,16 @@ fields_of e = (form_of e).numbers ++ (form_of e).values
 abbrev pub tokens_of : Event → List ℕ
 tokens_of e = (form_of e).tokens
 
+-- an event with other bytes for its expression; only a band Set has one
+abbrev pub with_tokens : List ℕ → Event → Event
+with_tokens tokens (reading sensor value) = reading sensor value
+with_tokens tokens (elapse n) = elapse n
+with_tokens tokens (reset type) = reset type
+with_tokens tokens (sensor_set sensor c) = sensor_set sensor c
+with_tokens tokens (band_set band c old) = band_set band c tokens
+with_tokens tokens (geometry band start blocks) = geometry band start blocks
+with_tokens tokens (transfer direction start count) = transfer direction start count
+
 -- every number is below 2^64, as a number of a script and a `u64` are
 abbrev pub Words : List ℕ → Type 0
 Words numbers = (i : ℕ) → get_or numbers i 0 < too_great

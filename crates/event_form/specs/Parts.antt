@@ -2,7 +2,7 @@
 use Rattle.std.specs.Prelude.{◌≡◌, ℕ, zero, suc, ◌-◌, cond, ◌&&◌, List, [], ◌∷◌, ◌++◌, eqb, leb, ltb, length, get_or, take, drop, replicate}
 use Rattle.drive.specs.Events.{Event}
 use Rattle.event_form.specs.declared.EventNumbers.{EventNumbers}
-use Rattle.event_form.specs.Form.{fields_of}
+use Rattle.event_form.specs.Form.{fields_of, with_tokens}
 use Rattle.event_form.specs.Kinds.{event_by}
 
 -- the numbers of an event by its kind, which is one of them; 0 where there is no such kind
@@ -56,3 +56,7 @@ events_of fields tokens = events_in (length fields) fields tokens
 pub record Numbers (e : Event) (r : EventNumbers) : Type 0 where
   pub width : r.width ≡ length (fields_of e)
   pub numbers : r.numbers ≡ fields_of e ++ replicate (10 - length (fields_of e)) 0
+
+-- and of those of an event whose expression has so many bytes, whatever they are
+abbrev pub NumbersWith : Event → ℕ → EventNumbers → Type 0
+NumbersWith e count r = (tokens : List ℕ) → length tokens ≡ count → Numbers (with_tokens tokens e) r

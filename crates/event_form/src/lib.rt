@@ -1,10 +1,11 @@
 //! An event by its numbers: its kind, and then every field, a Set's values named or not.
 #![tactic(auto)]
 
-ghost use Rattle.std.specs.Prelude.{◌≡◌, ◌++◌, ◌-◌, ◌≤◌, get_or, replicate};
+ghost use Rattle.std.specs.Prelude.{◌≡◌, ◌++◌, ◌-◌, ◌≤◌, length, get_or, replicate};
 ghost use Rattle.drive.specs.Events.{event_in};
+ghost use Rattle.event_form.specs.Form.{tokens_of};
 ghost use Rattle.event_form.specs.Kinds.{kind_number, FindsKind, sensor_columns, band_columns, event_by};
-ghost use Rattle.event_form.specs.Parts.{width_of, count_of, Numbers};
+ghost use Rattle.event_form.specs.Parts.{width_of, count_of, Numbers, NumbersWith};
 
 use answer::Refusal;
 use band_columns::BandColumns;
@@ -130,7 +131,7 @@ fn band_columns(fields: &[u64]) -> BandColumns
     }
 }
 
-// stays: (4) the kinds by their numbers here and in `numbers_of`: `EventKind::BandSet as u64` says no more in a list of numbers
+// stays: (4) the kinds by their numbers here and in `numbers_with`: `EventKind::BandSet as u64` says no more in a list of numbers
 /// How many bytes the expression of the event has with which the numbers begin.
 pub fn count_of(fields: &[u64]) -> u64
     ensures { result ≡ count_of fields.now }
@@ -159,9 +160,27 @@ fn padded<const N: usize>(first: [u64; N]) -> EventNumbers
     EventNumbers { numbers, width: N }
 }
 
+// How many bytes the expression of an event has.
+fn token_count(event: Event<'_>) -> usize
+    ensures { result ≡ length (tokens_of (event_in event.entry)) }
+{
+    match event {
+        Event::BandSet { tokens, .. } => tokens.len(),
+        _ => 0,
+    }
+}
+
 /// The numbers of an event: its kind and its fields, and of a band Set the length of its expression.
+#[tactic(auto, using(crate::proofs::Numbers::own_numbers))]
 pub fn numbers_of(event: Event<'_>) -> EventNumbers
     ensures { Numbers (event_in event.entry) result }
+{
+    numbers_with(event, token_count(event))
+}
+
+/// The numbers of an event whose expression has so many bytes. Which bytes are lent with it makes no difference.
+pub fn numbers_with(event: Event<'_>, count: usize) -> EventNumbers
+    ensures { NumbersWith (event_in event.entry) count result }
 {
     match event {
         Event::Reading { sensor, value } => padded([1, sensor, value]),
@@ -179,11 +198,7 @@ pub fn numbers_of(event: Event<'_>) -> EventNumbers
             columns.off_fraction,
             columns.off_timeout,
         ]),
-        Event::BandSet {
-            band,
-            columns,
-            tokens,
-        } => padded([
+        Event::BandSet { band, columns, .. } => padded([
             5,
             band,
             columns.mask,
@@ -192,7 +207,7 @@ pub fn numbers_of(event: Event<'_>) -> EventNumbers
             columns.read_locked,
             columns.write_locked,
             columns.lock_on_reset,
-            tokens.len() as u64,
+            count as u64,
         ]),
         Event::Geometry { band, span } => padded([6, band, span.start, span.length]),
         Event::Transfer { direction, range } => padded([7, direction, range.start, range.length]),

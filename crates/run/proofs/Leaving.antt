@@ -8,7 +8,6 @@ use lib.Seq.{take_all}
 use borrow.Author.Tests.{le-leb}
 use Rattle.base.specs.Spliced.{over}
 use Rattle.std.specs.Prelude.{Result, Ok, Err}
-use Rattle.script.specs.declared.BadScript.{BadScript}
 use Rattle.script.specs.declared.ScriptError.{ScriptError}
 use Rattle.script.specs.declared.ScriptError.TheVariants as E
 use Rattle.script.specs.Errors.{error_number, error_place}
@@ -17,6 +16,7 @@ use Rattle.drive.specs.Events.{Event, run_of, answers_of, stops_in}
 use Rattle.script.specs.Whole.{most_script_bytes, most_events, Script, accepted, bad, read_script}
 use Rattle.script.proofs.Few.{few-events}
 use Rattle.run.specs.declared.Ran.{Ran}
+use Rattle.run.specs.declared.Unrun.{Unrun}
 use Rattle.run.specs.Outcome.{RunOutcome, outcome, outcome_by, outcome_in, run_events, run_script}
 use Rattle.run.specs.Left.{LeftOutcome, leaves, left_in, left_by}
 
@@ -47,11 +47,11 @@ module _ (s answers stops : List ℕ) (long : most_events ≤ length answers) (w
   left_ok r count answers' stops' e w = ap (λ (x : Result ℕ ScriptError). left_of (outcome_by x r.drive answers' stops')) (sym e) ∙ ap left_of w ∙ run-left
 
   -- it is refused only where it is bad: the buffers are long enough
-  pub left_bad : (r : Ran) (error : ScriptError) (b : BadScript) (answers' stops' : List ℕ) → r.events ≡ Err error → outcome_in r answers' stops' ≡ run_script (read_script s) most_script_bytes answers stops
-      → b.place ≡ error_place error → left_in (Err b) ≡ left_by (read_script s)
-  left_bad r error b answers' stops' f w e = go (read_script s) refl (ap (λ (x : Result ℕ ScriptError). outcome_by x r.drive answers' stops') (sym f) ∙ w)
+  pub left_bad : (r : Ran) (error : ScriptError) (u : Unrun) (answers' stops' : List ℕ) → r.events ≡ Err error → outcome_in r answers' stops' ≡ run_script (read_script s) most_script_bytes answers stops
+      → u.place ≡ error_place error → u.drive ≡ r.drive → left_in (Err u) ≡ left_by (read_script s)
+  left_bad r error u answers' stops' f w e d = go (read_script s) refl (ap (λ (x : Result ℕ ScriptError). outcome_by x r.drive answers' stops') (sym f) ∙ w)
     where
-      go : (o : Script) → read_script s ≡ o → outcome_by (Err error) r.drive answers' stops' ≡ run_script o most_script_bytes answers stops → left_in (Err b) ≡ left_by o
+      go : (o : Script) → read_script s ≡ o → outcome_by (Err error) r.drive answers' stops' ≡ run_script o most_script_bytes answers stops → left_in (Err u) ≡ left_by o
       go (accepted capacity bands sensors es) q h =
           let z : error_number error ≡ 0 = let k = h ∙ whole capacity bands sensors es q in cc in
           absurd (some error z)
@@ -59,4 +59,4 @@ module _ (s answers stops : List ℕ) (long : most_events ≤ length answers) (w
           some : (x : ScriptError) → error_number x ≡ 0 → ⊥
           some (E.Bad place) y = omega (arith, y)
           some E.ShortBuffer y = omega (arith, y)
-      go (bad place) q h = let z : error_place error ≡ place = cc in rw (e, z)
+      go (bad place) q h = let z : error_place error ≡ place = cc in let x : r.drive ≡ fresh_drive 1 1 0 = cc in rw (e, z, d, x)

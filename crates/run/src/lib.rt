@@ -1,18 +1,18 @@
 //! The run of a script: its events, one after the other, from the fresh drive of its header.
 #![tactic(auto)]
 
-ghost use Rattle.std.specs.Prelude.{◌≡◌, ◌≤◌, length, IfOk};
+ghost use Rattle.std.specs.Prelude.{◌≡◌, ◌≤◌, length};
 ghost use Rattle.script.specs.Whole.{most_events, most_script_bytes, read_script};
 ghost use Rattle.reached.specs.Reached.{Reached};
 ghost use Rattle.run.specs.Condition3.{Condition3OfRun, Condition3OfTwo};
 ghost use Rattle.run.specs.Outcome.{outcome_in, run_script};
-ghost use Rattle.run.specs.Left.{left_in, left_by};
+ghost use Rattle.run.specs.Left.{left_in, left_drive, left_by};
 ghost use Rattle.run.specs.Reached.{RunReaches};
 ghost use Rattle.run.specs.Parts.{fewer_of, FirstRun, refused_in};
 
 use drive::{Drive, Header};
 use reader::Reader;
-use script::{BadScript, ScriptError};
+use script::ScriptError;
 
 /// As many events as a script may have bytes: so many are all of them.
 pub const WHOLE: u64 = script::MOST_BYTES as u64;
@@ -33,6 +33,14 @@ pub struct Ran {
 pub struct RanTwo {
     pub first: Ran,
     pub second: Ran,
+}
+
+/// Of a bad script, which leaves no drive of its own: the place of what is bad, and the drive of a refused header.
+// stays: (1) a drive beside the place: the clause `reached` of `left` speaks of a bad script's drive too (drive_of_a_bad_script_of_two_blocks)
+#[derive(Clone, Copy)]
+pub struct Unrun {
+    pub place: usize,
+    pub drive: Drive,
 }
 
 /// How many events to run: those asked for, or all where there are fewer.
@@ -122,25 +130,26 @@ pub fn run_two(
 }
 
 /// Runs a script whole by way of lent memory, a byte for each of its events in two buffers, and hands its drive over.
-fn left_by(script: &[u8], answers: &mut [u8], stops: &mut [u8]) -> Result<Drive, BadScript>
+fn left_by(script: &[u8], answers: &mut [u8], stops: &mut [u8]) -> Result<Drive, Unrun>
     requires { (most_events ≤ length answers.old) × (most_events ≤ length stops.old) }
     ensures result_value { left_in result ≡ left_by (read_script script.now) }
-    ensures reached { IfOk result Reached }
+    ensures reached { Reached (left_drive result) }
 {
     let ran = run(script, WHOLE, answers, stops);
     match ran.events {
         Ok(_) => Ok(ran.drive),
         // of the two errors only the first is met: the buffers are long enough
-        Err(error) => Err(BadScript {
+        Err(error) => Err(Unrun {
             place: error.place(),
+            drive: ran.drive,
         }),
     }
 }
 
-/// Runs a script whole and hands over the drive that its last event leaves; or the place of what is bad.
-pub fn left(script: &[u8]) -> Result<Drive, BadScript>
+/// Runs a script whole and hands over the drive that its last event leaves; or the place of what is bad, and the drive of a refused header.
+pub fn left(script: &[u8]) -> Result<Drive, Unrun>
     ensures result_value { left_in result ≡ left_by (read_script script.now) }
-    ensures reached { IfOk result Reached }
+    ensures reached { Reached (left_drive result) }
 {
     let mut answers = [0; MOST_EVENTS];
     let mut stops = [0; MOST_EVENTS];
