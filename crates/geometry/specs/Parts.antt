@@ -1,5 +1,5 @@
 -- Runs of blocks that lie in one band: what the loops of the code hand on. They go over the spans of the bands from 1 on.
-use Rattle.std.specs.Prelude.{◌≡◌, ℕ, ◌+◌, ◌≤◌, ◌<◌, Bool, false, ◌&&◌, List, get_or, length}
+use Rattle.std.specs.Prelude.{◌≡◌, ℕ, ◌+◌, ◌≤◌, ◌<◌, Bool, true, false, ◌&&◌, List, get_or, length}
 use Rattle.geometry.specs.declared.Span.{Span}
 use Rattle.geometry.specs.declared.Run.{Run}
 use Rattle.geometry.specs.Blocks.{covers, meets_of, span_of, band_from}
@@ -24,3 +24,14 @@ closed_in spans closed block = get_or closed (band_from 1 spans block) false
 -- the i-th of the spans is that of a closed band and has a block of the range
 abbrev pub bars_at : List Span → List Bool → Span → ℕ → Bool
 bars_at spans closed range i = get_or closed (i + 1) false && meets_of range (span_of spans i)
+
+-- a closed band, other than 0, that has a block of the range
+pub record Bar (spans : List Span) (closed : List Bool) (range : Span) : Type 0 where
+  pub at : ℕ
+  pub known : at < length spans
+  pub bars : bars_at spans closed range at ≡ true
+
+-- whether there is one
+pub record Barred (spans : List Span) (closed : List Bool) (range : Span) (r : Bool) : Type 0 where
+  pub there : r ≡ true → Bar spans closed range
+  pub none : r ≡ false → (i : ℕ) → i < length spans → bars_at spans closed range i ≡ false

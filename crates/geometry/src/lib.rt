@@ -6,7 +6,7 @@ ghost use Rattle.std.specs.List.{list_any};
 ghost use Rattle.answer.specs.Numbers.{answer_number};
 ghost use Rattle.geometry.specs.Blocks.{covers, any_block, meets_of, meets_any, overlapping, band_spans};
 ghost use Rattle.geometry.specs.Events.{no_span, past_end, transfer_answer, Places, LockedTransfer, OverlapRefused};
-ghost use Rattle.geometry.specs.Parts.{Alike, OneBand, closed_in, bars_at};
+ghost use Rattle.geometry.specs.Parts.{Alike, OneBand, Barred, closed_in};
 
 use answer::Refusal;
 
@@ -123,10 +123,10 @@ fn sweep(spans: &[Span], closed: &[bool; 16], range: Span) -> bool
     false
 }
 
-/// False only where no closed band other than 0 has a block of the range: `sweep` decides the rest.
+/// Whether a closed band other than 0 has a block of the range.
 fn barred(spans: &[Span], closed: &[bool; 16], range: Span) -> bool
     requires { length spans.now < 16 }
-    ensures { result ≡ false → (i : ℕ) → i < length spans.now → bars_at spans.now closed.now range i ≡ false }
+    ensures { Barred spans.now closed.now range result }
 {
     for (i, span) in spans.iter().enumerate() {
         if closed[i + 1] && range.meets(*span) {

@@ -9,6 +9,7 @@ use lib.Dec.{eqb}
 use lib.ListN.{length, get_or, set, length-map}
 use borrow.Author.Tests.{ne_eqb, eq-eqb}
 use Rattle.std.specs.Prelude.{Some, None, Result, Ok, Err}
+use Rattle.std.proofs.lemmas.List.{get_or-set_same}
 use Rattle.base.specs.Lists.{one_if, any}
 use Rattle.base.specs.Rows.{is_row, modify}
 use Rattle.base.specs.Ticks.{most_ticks, ticks}
@@ -21,7 +22,7 @@ use Rattle.answer.specs.declared.Refusal.TheVariants.{NoRow, OutOfRange}
 use Rattle.answer.specs.Numbers.{number_of}
 use Rattle.answer.proofs.Injective.{refusal_number}
 use Rattle.sensor.specs.declared.single.Sensor.{Sensor}
-use Rattle.sensor.specs.Single.{power_cycle_of, ends_next, sensor_tick}
+use Rattle.sensor.specs.Single.{fresh_sensor, power_cycle_of, ends_next, sensor_tick}
 use Rattle.sensor.specs.Parts.{lowered_by}
 use Rattle.sensor_set.specs.declared.SensorEvent.{SensorEvent}
 use Rattle.sensor_set.specs.declared.SensorEvent.TheVariants as S
@@ -49,7 +50,7 @@ use Rattle.elapse.specs.Parts.{jump_of}
 use Rattle.elapse.proofs.Calm.{Calm, drive-jumps}
 use Rattle.row_set.specs.Forming.{row_answer}
 use Rattle.in_place.specs.declared.Run.{Run}
-use Rattle.in_place.specs.Parts.{SettledSixteen, Flagged, Stored, Kept, Runs, on_sensor, finish_of, Finishes}
+use Rattle.in_place.specs.Parts.{SettledSixteen, Flagged, Stored, Kept, Runs, on_sensor, finish_of, Finishes, LooksIfTurned}
 
 -- ---- what an event leaves
 
@@ -140,6 +141,18 @@ module _ (was : Run) (k : Kept was) (s : ℕ) (x : SensorEvent) where
       pub sensor_turned : (now : Run) → Finishes (stored_in (with_sensors (set was.drive.sensors at new) was.drive) was.any_lockable) None now → Runs was (on_sensor s x) (Ok 0) now
       unfolding held finish_of
       sensor_turned now q = runs now q.drive q.flag
+
+      -- where it is the same, nothing is finished
+      pub sensor_looks : (now : Run) → Finishes (stored_in (with_sensors (set was.drive.sensors at new) was.drive) was.any_lockable) None now
+          → new.condition ≢ (get_or was.drive.sensors at y).condition → LooksIfTurned was s now
+      unfolding finish_of settle_of
+      sensor_looks now q n e =
+          let kept : now.drive.sensors ≡ set was.drive.sensors at new = ap (λ (d : Drive). d.sensors) q.drive in
+          let there : get_or now.drive.sensors s fresh_sensor ≡ new =
+          ap₂ (λ (l : List Sensor) (i : ℕ). get_or l i fresh_sensor) kept (sym pa) ∙ get_or-set_same was.drive.sensors at new fresh_sensor within in
+          let before : get_or was.drive.sensors s fresh_sensor ≡ get_or was.drive.sensors at y =
+          ap (λ (i : ℕ). get_or was.drive.sensors i fresh_sensor) (sym pa) ∙ sym (get_d_any was.drive.sensors at y fresh_sensor within) in
+          absurd (n (ap (λ (x : Sensor). x.condition) (sym there) ∙ e ∙ ap (λ (x : Sensor). x.condition) before))
 
       -- its condition is the same
       pub sensor_steady : new.condition ≡ (get_or was.drive.sensors at y).condition

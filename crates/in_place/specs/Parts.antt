@@ -1,9 +1,10 @@
 -- What the run keeps of its drive, and what each of its parts makes of it.
-use Rattle.std.specs.Prelude.{ℕ, ◌≡◌, false, map, length, Option, Some, None, Result, Ok, Err}
+use Rattle.std.specs.Prelude.{ℕ, ◌≡◌, false, ◌||◌, map, length, get_or, Option, Some, None, Result, Ok, Err}
 use Rattle.base.specs.Lists.{any}
 use Rattle.answer.specs.declared.Refusal.{Refusal}
 use Rattle.answer.specs.Numbers.{answer_number}
-use Rattle.band.specs.Rows.{reset_row}
+use Rattle.sensor.specs.Single.{fresh_sensor}
+use Rattle.band.specs.Rows.{fresh_row, reset_row}
 use Rattle.band.specs.Parts.{is_lockable}
 use Rattle.drive.specs.declared.Drive.{Drive}
 use Rattle.drive.specs.State.{with_rows, settle_of}
@@ -61,3 +62,15 @@ finish_of reset d = settle_of (reset_by reset d)
 pub record Finishes (was : Run) (reset : Option ℕ) (now : Run) : Type 0 where
   pub drive : now.drive ≡ finish_of reset was.drive
   pub flag : Flagged now
+
+-- ---- that rows are looked at only where it is due: what each event on one sensor and on one row makes of the flag
+
+-- after an event on one sensor whose condition is the same then, the flag is as it was: as after a look at the rows it may not be
+abbrev pub LooksIfTurned : Run → ℕ → Run → Type 0
+LooksIfTurned was sensor now =
+    (get_or now.drive.sensors sensor fresh_sensor).condition ≡ (get_or was.drive.sensors sensor fresh_sensor).condition → now.any_lockable ≡ was.any_lockable
+
+-- a Set of a row sets the flag where the row is lockable then, and else leaves it
+abbrev pub FlagsIfLockable : Run → ℕ → Result ℕ Refusal → Run → Type 0
+FlagsIfLockable was band (Ok stops) now = now.any_lockable ≡ (was.any_lockable || is_lockable (get_or now.drive.rows band fresh_row))
+FlagsIfLockable was band (Err refusal) now = now.any_lockable ≡ was.any_lockable

@@ -7,7 +7,7 @@ ghost use Rattle.drive.specs.State.{fresh_of};
 ghost use Rattle.drive.specs.Events.{event_in};
 ghost use Rattle.drive.specs.Events.{Event as E};
 ghost use Rattle.in_place.specs.FirstEvents.{after, events_run, first_events, first_events_run};
-ghost use Rattle.in_place.specs.Parts.{Stored, Kept, Runs, Finishes, on_sensor, SettledSixteen};
+ghost use Rattle.in_place.specs.Parts.{Stored, Kept, Runs, Finishes, on_sensor, SettledSixteen, LooksIfTurned, FlagsIfLockable};
 
 use answer::Refusal;
 use band::{Row, Side};
@@ -50,9 +50,12 @@ impl Run {
 
     #[tactic(auto, using(crate::proofs::Storing::sensor_stored))]
     /// An event on one sensor. The rows are looked at only where its condition is another then.
+    // inlined into the two arms of `apply` that call it, so that no event of a sensor is made up for the call
+    #[inline(always)]
     fn on_sensor(&mut self, sensor: u64, event: SensorEvent) -> Result<u64, Refusal>
         requires { Kept self.old }
-        ensures { Runs self.old (on_sensor sensor event) result self.new }
+        ensures runs { Runs self.old (on_sensor sensor event) result self.new }
+        ensures looks { LooksIfTurned self.old sensor self.new }
     {
         let at = drive::place_of(self.drive.sensor_count, sensor)?;
         let one = self.drive.sensors[at];
@@ -105,7 +108,8 @@ impl Run {
     /// A Set of a row, which settles alone: the others have.
     fn set_band(&mut self, band: u64, columns: BandColumns, tokens: &[u8]) -> Result<u64, Refusal>
         requires { Kept self.old }
-        ensures { Runs self.old (E.band_set band columns tokens.now) result self.new }
+        ensures runs { Runs self.old (E.band_set band columns tokens.now) result self.new }
+        ensures flags { FlagsIfLockable self.old band result self.new }
     {
         let at = drive::place_of(self.drive.band_count, band)?;
         let conditions = self.drive.conditions();
