@@ -48,7 +48,7 @@ pub record SensorFits (s : Sensor) : Type 0 where
   -- a timer, a phase, a level and a condition that agree, and fractions in their range
   pub sound : Sound s
   -- document 02, #101: "Thresholds act when they are set.": the level is the one that the last reading gives under the thresholds as they are;
-  -- that reading is in its range, and 0 where there is none
+  -- that reading, where there is one, is in its range
   pub up-to-date : UpToDate s
 
 -- "a header out of range" is refused

@@ -1,4 +1,4 @@
--- The level rule: laws of its cases.
+-- The level rule, a law for each of its cases.
 use mathlib.Core.Path.{◌≡◌, refl}
 use mathlib.Core.Bool.{Bool, true, false, cond}
 use Prim.Native.Nat.{ℕ, ◌<◌, ◌≤◌}
@@ -7,7 +7,7 @@ use borrow.Author.Tests.{le-leb, lt-leb, lt-ltb, le-ltb}
 use Rattle.sensor.specs.Level.{level_rule}
 
 module _ (on off v : ℕ) (l : Bool) where
-  -- "if On ≥ Off, a reading ≥ On gives TRUE, one < Off gives FALSE"
+  -- "if On ≥ Off, a reading ≥ On gives TRUE, one < Off gives FALSE", and one between them keeps the level
   module _ (h : off ≤ on) where
     pub high-true : on ≤ v → level_rule on off v l ≡ true
     unfolding level_rule
@@ -17,8 +17,16 @@ module _ (on off v : ℕ) (l : Bool) where
     unfolding level_rule
     low-false k m = rw (le-leb off on h, lt-leb on v m, lt-ltb v off k)
 
-  -- "if On < Off, .. one > Off gives FALSE", and one between On and Off keeps the level
+    pub between-keeps : off ≤ v → v < on → level_rule on off v l ≡ l
+    unfolding level_rule
+    between-keeps k m = rw (le-leb off on h, lt-leb on v m, le-ltb v off k)
+
+  -- "if On < Off, a reading ≤ On gives TRUE, one > Off gives FALSE", and one between them keeps the level
   module _ (h : on < off) where
+    pub low-true : v ≤ on → level_rule on off v l ≡ true
+    unfolding level_rule
+    low-true k = rw (lt-leb off on h, le-leb v on k)
+
     pub high-false : off < v → on < v → level_rule on off v l ≡ false
     unfolding level_rule
     high-false k m = rw (lt-leb off on h, lt-leb v on m, lt-ltb off v k)

@@ -4,5 +4,6 @@ pub mod Ticks
 pub mod Soundness
 pub mod Levels
 pub mod Judging
+pub mod Lag
 pub mod Bounds
 pub mod Worked

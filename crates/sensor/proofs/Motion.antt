@@ -1,6 +1,8 @@
 -- What single moves do to a sensor: laws of `after_cause` by cause.
 use mathlib.Core.Path.{◌≡◌, refl, sym, ap, ◌∙◌}
 use mathlib.Core.Bool.{Bool, true, false, cond, beq, false≢true}
+use Prim.Native.Nat.{ℕ, ◌-◌}
+use native.Mathlib.Omega.{arith}
 use lib.Dec.{eqb}
 use borrow.Author.Tests.{eq-eqb, ne_eqb}
 use Rattle.base.proofs.Cases.{cond-false}
@@ -11,7 +13,8 @@ use Rattle.phases.specs.declared.Cause.{Cause}
 use Rattle.phases.specs.declared.Cause.TheVariants.{TrueAtOnce, TrueWaiting, FalseAtOnce, FalseWaiting, TimerEnds, EnabledTrueAtOnce, EnabledTrueWaiting, EnabledFalse}
 use Rattle.sensor.specs.declared.single.Sensor.{Sensor}
 use Rattle.phases.specs.Phases.{is_enabled, when_enabled, when_disabled, move_of, settled, level_after}
-use Rattle.sensor.specs.Single.{fresh_sensor, moved, moved_by, with_level, after_cause, timer_in, turn_cause, turned_to, enable_of, sensor_tick, power_cycle_of}
+use Rattle.sensor.specs.Single.{fresh_sensor, moved, moved_by, with_level, with_timer, after_cause, timer_in, turn_cause, turned_to, enable_of, sensor_tick, power_cycle_of}
+use Rattle.sensor.specs.Parts.{lowered_by}
 use Rattle.sensor.specs.Turning.{timeout_to, waiting_at, settled_at, Turning}
 
 settled-off : (p : Phase) (s : Sensor) → timer_in (settled p) s ≡ 0
@@ -162,6 +165,10 @@ fresh-condition = refl
 pub fresh-tick : sensor_tick fresh_sensor ≡ fresh_sensor
 unfolding sensor_tick fresh_sensor
 fresh-tick = refl
+
+pub fresh-lowered : (k : ℕ) → lowered_by k fresh_sensor ≡ fresh_sensor
+unfolding fresh_sensor
+fresh-lowered k = let e : 0 - k ≡ 0 = omega arith in ap (λ (t : ℕ). with_timer t fresh_sensor) e
 
 pub fresh-power-cycle : power_cycle_of fresh_sensor ≡ fresh_sensor
 unfolding power_cycle_of after_cause move_of fresh_sensor

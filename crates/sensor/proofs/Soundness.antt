@@ -1,7 +1,7 @@
 -- Every sensor that events reach is sound: the fresh one is, and every method keeps it.
 use mathlib.Core.Path.{◌≡◌, refl, subst}
 use mathlib.Core.Bool.{Bool, true, false, cond, beq}
-use Prim.Native.Nat.{ℕ, ◌-◌}
+use Prim.Native.Nat.{ℕ, zero, suc, ◌-◌}
 use native.Mathlib.Omega.{arith}
 use lib.Dec.{eqb, ltb}
 use borrow.Author.Tests.{eqb-false}
@@ -26,7 +26,9 @@ use Rattle.sensor.specs.declared.single.Sensor.{Sensor}
 use Rattle.phases.specs.Phases.{condition_in, when_enabled, when_disabled, settled, power_cycled, move_of}
 use Rattle.sensor.specs.Level.{greatest_reading}
 use Rattle.sensor.specs.Single.{fresh_sensor, moved, with_level, with_timer, timer_in, entering, moved_by, after_cause, with_reading, keeping, level_given, judged, turn_cause, turned_to, reading_of, enable_cause, enable_of, disable_of, power_cycle_of, sensor_tick}
+use Rattle.sensor.specs.Parts.{lowered_by}
 use Rattle.sensor.specs.Sound.{TimerAgrees, LevelAgrees, ConditionAgrees, Sound}
+use Rattle.sensor.proofs.Ticks.{QuietFor}
 
 pub fresh-sound : Sound fresh_sensor
 unfolding fresh_sensor
@@ -195,6 +197,14 @@ tick-sound s h =
   where
     more : (s.timer ≡ 0 → ⊥) → (s.timer ≡ 1 → ⊥) → s.timer - 1 ≡ 0 → ⊥
     more n m z = omega arith
+
+-- k ticks at once, where none of them ends the timer
+pub lowered-sound : (k : ℕ) (s : Sensor) → QuietFor k s.timer → Sound s → Sound (lowered_by k s)
+lowered-sound k s q h = timer-sound s (s.timer - k) (omega arith) (go s.timer q) h
+  where
+    go : (t : ℕ) → QuietFor k t → t - k ≡ 0 → t ≡ 0
+    go zero q e = refl
+    go (suc t) q e = omega arith
 
 -- ---- enabling, disabling, power cycle
 

@@ -8,6 +8,7 @@ use lib.Dec.{eqb, ltb}
 use borrow.Author.Tests.{eq-eqb, ne_eqb, eqb-false, lt-ltb, ltb-true, ltb-false}
 use Rattle.base.specs.Lists.{one_if}
 use Rattle.base.proofs.Cases.{cond-true, cond-false}
+use Rattle.base.proofs.Jumps.{Jumps}
 use Rattle.base.proofs.Lists.{one_if-le}
 use Rattle.sensor.specs.declared.single.Sensor.{Sensor}
 use Rattle.phases.specs.declared.Cause.TheVariants.{TimerEnds}
@@ -38,6 +39,10 @@ abbrev pub QuietFor : ℕ → ℕ → Type 0
 QuietFor k zero = Unit {0}
 QuietFor k (suc t) = k ≤ t
 
+pub quiet-below : (k t : ℕ) → k < t → QuietFor k t
+quiet-below k zero h = tt
+quiet-below k (suc t) h = omega arith
+
 pub quiet-less : (j k t : ℕ) → j ≤ k → QuietFor k t → QuietFor j t
 quiet-less j k zero h q = tt
 quiet-less j k (suc t) h q = omega arith
@@ -63,6 +68,16 @@ lowered_none s = same-timer s (s.timer - 0) (omega arith)
 
 pub lowered-more : (k : ℕ) (s : Sensor) → lowered_by k (lowered_by 1 s) ≡ lowered_by (suc k) s
 lowered-more k s = let e : s.timer - 1 - k ≡ s.timer - suc k = omega arith in ap (λ (n : ℕ). with_timer n s) e
+
+-- lowering by k stands for k quiet ticks of one sensor
+pub sensor-jumps : Jumps sensor_tick ends_next lowered_by (λ k s. QuietFor k s.timer)
+sensor-jumps = record {
+  none = λ s q. lowered_none s;
+  more = λ k s q. lowered-more k s;
+  no_stop = λ k s q. ne_eqb s.timer 1 (not_last k s.timer q);
+  one = λ k s q. tick-lowers k s s.timer refl q;
+  next = λ k s q. quiet_next k s.timer q;
+}
 
 -- the ticks before the end
 
