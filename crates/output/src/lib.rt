@@ -16,7 +16,10 @@ pub fn put<T: Copy>(out: &mut [T], at: usize, items: &[T])
     if out.len() - items.len() < at {
         return;
     }
-    out[at..at + items.len()].copy_from_slice(items);
+    // by a loop: `copy_from_slice` would want `memmove` of whoever links the exported functions
+    for (i, &item) in items.iter().enumerate() {
+        out[at + i] = item;
+    }
 }
 
 #[tactic(auto, unfolding(crate::specs::Filling::fill_answer))]
