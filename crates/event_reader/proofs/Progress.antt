@@ -3,7 +3,7 @@ use mathlib.Core.Path.{◌≡◌, refl, sym, ap, subst, ◌∙◌}
 use Prim.Native.Nat.{ℕ, ◌+◌, ◌-◌, ◌≤◌, ◌<◌}
 use native.Mathlib.Omega.{arith}
 use mathlib.Core.List.{List, [], ◌∷◌}
-use mathlib.Core.Bool.{Bool, true, false, cond}
+use mathlib.Core.Bool.{Bool, true, false, cond, true≢false}
 use lib.Dec.{eqb, leb, ltb}
 use lib.ListN.{length, take, drop, length-drop}
 use lib.Seq.{length-take-le}
@@ -51,7 +51,7 @@ use Rattle.event_reader.specs.Fields.{
   carried,
   Reads,
 }
-use Rattle.std.specs.Prelude.{Some}
+use Rattle.std.specs.Prelude.{Option, Some, None, is_some}
 use Rattle.drive.specs.declared.Event.{Event as LentEvent}
 use Rattle.event_reader.specs.Parts.{brief, brief_in}
 use Rattle.event_reader.proofs.Bounds.{NumberIn, number-at, number-here}
@@ -252,3 +252,8 @@ reads_some s at was n ev h = go (event_at s at) refl h
     go : (p : Parsed) → event_at s at ≡ p → brief_in (Some ev) n ≡ brief p → Reads s p was (Some ev) n
     go (event answer e start count next) q h = (cc, cc, event-tokens s at answer e start count next q, cc)
     go (broken answer) q h = let z : ◌≡◌ {A = ℕ} 0 1 = cc in absurd (omega (arith, z))
+
+-- an event where some stands there
+pub reads_told : (s : List ℕ) (at was n : ℕ) (r : Option LentEvent) → is_some r ≡ true → brief_in r n ≡ brief (event_at s at) → Reads s (event_at s at) was r n
+reads_told s at was n (Some ev) o h = reads_some s at was n ev h
+reads_told s at was n None o h = absurd (true≢false (sym o))

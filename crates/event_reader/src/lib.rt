@@ -199,8 +199,10 @@ pub fn event<'a>(reader: &mut Reader<'a>) -> Option<Event<'a>>
     ensures script { reader.new.script ≡ reader.old.script }
     ensures event { Reads reader.old.script.now (event_at reader.old.script.now reader.old.at) reader.old.at result reader.new.at }
 {
-    let mut ahead = *reader;
-    let event = fields(&mut ahead)?;
-    *reader = ahead;
-    Some(event)
+    let at = reader.at;
+    let event = fields(reader);
+    if event.is_none() {
+        reader.at = at;
+    }
+    event
 }

@@ -13,7 +13,7 @@ use borrow.Rule.Slice.PartMut.{put_mid}
 use Rattle.base.specs.Spliced.{over}
 use Rattle.report.specs.Lines.{decimal, fields, line, lines}
 use Rattle.report.specs.Parts.{Puts, Room}
-use Rattle.report.proofs.Decimal.{decimal_text}
+use Rattle.report.proofs.Decimal.{decimal_text, decimal-one}
 
 over-long : (x d : List ℕ) → length x ≤ length d → length (over x d) ≡ length d
 over-long x d h = omega (arith, length-append x (drop (length x) d), length-drop (length x) d, h)
@@ -63,6 +63,13 @@ module _ (x y d out : List ℕ) (at : ℕ) (room : Room (x ++ y) d) (p : Puts x 
 
 -- a number, as the library prints it
 pub ruleset number_put = (decimal_text, length-take-le)
+
+-- a number of one digit
+pub digit_room : (n : ℕ) (d : List ℕ) → n < 10 → Room (decimal n) d → 0 < length d
+digit_room n d h room = omega (arith, room, ap length (decimal-one n h))
+
+pub digit_put : (n : ℕ) (d : List ℕ) → n < 10 → Room (decimal n) d → Puts (decimal n) d 1 (set d 0 (48 + n))
+digit_put n d h room = puts-as (sym (decimal-one n h)) (puts_one d (48 + n) (digit_room n d h room))
 
 -- ---- a line: the numbers up to i have been put
 

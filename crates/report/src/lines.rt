@@ -21,11 +21,16 @@ use drive::Drive;
 use itoa::Buffer;
 use sensor::Sensor;
 
-#[tactic(auto, using(crate::proofs::Putting::number_put))]
+#[tactic(auto, using(crate::proofs::Putting::number_put, crate::proofs::Putting::digit_room))]
+/// Writes a number. Most numbers of a listing have one digit, which is written straight.
 fn put_number(out: &mut [u8], n: u64) -> usize
     requires { Room (decimal n) out.old }
     ensures { Puts (decimal n) out.old result out.new }
 {
+    if n < 10 {
+        out[0] = b'0' + n as u8;
+        return 1;
+    }
     let mut buffer = Buffer::new();
     let digits = buffer.format(n).as_bytes();
     out[..digits.len()].copy_from_slice(digits);

@@ -50,6 +50,8 @@ fn tokens_of(event: Event<'_>) -> &[u8]
 }
 
 // The flat form of the events from the reader's place on, from the start of both slices; each slice has it only where it is long enough.
+// inlined, so that `measure` only counts
+#[inline(always)]
 fn flatten(
     mut reader: Reader<'_>,
     fields: &mut [u64],

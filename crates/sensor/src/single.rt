@@ -144,8 +144,11 @@ impl Sensor {
         }
     }
 
+    // `turn_to`, `judge` and `reading` are inlined, as a call would hand the sensor over in memory, which costs more than what they do
+
     #[tactic(auto, unfolding(crate::specs::Single::turned_to))]
     /// The sensor once its level is `level`.
+    #[inline(always)]
     pub fn turn_to(self, level: bool) -> Sensor
         ensures { result ≡ turned_to level self }
     {
@@ -172,6 +175,7 @@ impl Sensor {
 
     #[tactic(auto, unfolding(crate::specs::Single::judged))]
     /// The sensor once its last reading is judged by the level rule: what a reading and a Set of a threshold share.
+    #[inline(always)]
     pub fn judge(self) -> Sensor
         ensures { result ≡ judged self }
     {
@@ -180,6 +184,7 @@ impl Sensor {
 
     #[tactic(auto, unfolding(crate::specs::Single::reading_of))]
     /// The sensor after a reading, in thousandths. `OutOfRange` above the greatest reading.
+    #[inline(always)]
     pub fn reading(self, value: u64) -> Result<Sensor, Refusal>
         ensures { Answers (reading_answer value) (reading_of value self) result }
     {

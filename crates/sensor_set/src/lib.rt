@@ -40,6 +40,8 @@ pub enum SensorEvent {
 
 impl SensorEvent {
     /// The sensor after the event. `OutOfRange` where the reading, a named column or the mask exceeds its range.
+    // inlined, as a call would hand the event and the sensor over in memory
+    #[inline(always)]
     pub fn apply(self, one: Sensor) -> Result<Sensor, Refusal>
         ensures { Answers (sensor_answer self) (sensor_after self one) result }
     {

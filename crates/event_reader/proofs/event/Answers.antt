@@ -1,7 +1,8 @@
-use borrow.Author.Rules.{rules}
-use Rattle.event_reader.proofs.Progress.{reads_some}
+use Rattle.event_reader.proofs.Progress.{reads_told}
 use Rattle.event_reader.proofs.event.Goals as goal
 
-pub returns-clause-event : goal.returns-clause-event
-returns-clause-event c =
-    reads_some c.args.reader.now.script.now c.args.reader.now.at c.args.reader.now.at c.fields.new.reader.at c.in_ok-event.event (search rules)
+pub returns-else-is_none-clause-event : goal.returns-else-is_none-clause-event
+returns-else-is_none-clause-event c =
+    let s = c.args.reader.now.script.now in
+    let at = c.args.reader.now.at in
+    reads_told s at at c.fields-event.new.reader.at c.fields-event.result c.if-is_none.ensures c.fields-event.ensures.event
